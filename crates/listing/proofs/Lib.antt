@@ -1,0 +1,2 @@
+mod Appends
+mod Threads

@@ -1,0 +1,10 @@
+pub mod Chains
+pub mod Elements
+pub mod Faults
+pub mod Files
+pub mod Forms
+pub mod Headers
+pub mod Kinds
+pub mod Programs
+pub mod Schedules
+pub mod Tables

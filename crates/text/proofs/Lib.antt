@@ -1,0 +1,3 @@
+pub mod Figures
+pub mod Growing
+pub mod Placing

@@ -1,0 +1,3 @@
+// Shapes of a bench.
+pub mod refusal;
+pub mod shape;
