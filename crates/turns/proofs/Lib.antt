@@ -1,0 +1,3 @@
+pub mod Nibbles
+pub mod Turning
+pub mod Words
