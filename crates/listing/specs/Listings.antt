@@ -15,7 +15,7 @@ use Rattle.runfile.specs.declared.kinds.ElementKind.{ElementKind}
 use Rattle.runfile.specs.declared.kinds.ElementKind.the-variants.{Number, Letter}
 use Rattle.runfile.specs.declared.operation.Operation.{Operation}
 use Rattle.runfile.specs.declared.operation.Operation.the-variants.{Push, Pop}
-use Rattle.runfile.specs.Elements.{number-lawful, number-reading, number-text, letter-lawful, letter-reading, letter-text}
+use Rattle.runfile.specs.Elements.{Format, number-format, number-text, letter-format, letter-text}
 use Rattle.runfile.specs.Faults.{numberOf}
 use Rattle.runfile.specs.Files.{Contents, parsed, programs-in, lead-in-in, main-in}
 use Rattle.runfile.specs.Programs.{operations-of}
@@ -54,14 +54,14 @@ abbrev pub program-line : {T : Type 0} → (T → List ℕ) → ℕ → List (Op
 program-line printed thread os = codes "program " ++ (decimal thread ++ (joined (operation-text printed) os ++ line-feed))
 
 -- the programs from thread `k` on
-abbrev pub program-lines : {T : Type 0} → ℕ → (List ℕ → Bool) → (List ℕ → T) → (T → List ℕ) → ℕ → List (List ℕ) → List ℕ
-program-lines width lawful reading printed k [] = []
-program-lines width lawful reading printed k (p ∷ ps) =
-    program-line printed k (operations-of width lawful reading 0 p) ++ program-lines width lawful reading printed (k + 1) ps
+abbrev pub program-lines : {T : Type 0} → Format T → (T → List ℕ) → ℕ → List (List ℕ) → List ℕ
+program-lines form printed k [] = []
+program-lines form printed k (p ∷ ps) =
+    program-line printed k (operations-of form 0 p) ++ program-lines form printed (k + 1) ps
 
 abbrev pub programs-text : ElementKind → List (List ℕ) → List ℕ
-programs-text Number ps = program-lines 4 number-lawful number-reading number-text 0 ps
-programs-text Letter ps = program-lines 6 letter-lawful letter-reading letter-text 0 ps
+programs-text Number ps = program-lines number-format number-text 0 ps
+programs-text Letter ps = program-lines letter-format letter-text 0 ps
 
 -- a schedule: its word, and its threads
 abbrev pub thread-text : ℕ → List ℕ

@@ -46,7 +46,7 @@ pub(crate) fn append_schedule(
 
 // The operations of a program, as far as they are right.
 fn append_operations<E: Element>(out: &mut Vec<u8>, program: &[u8]) -> Result<(), AllocError>
-    ensures { λ r. ⌜ made r (λ _. vec-items (now (out .exit)) ≡ vec-items (now (out .entry)) ++ joined (operation-text (E·Element .printed)) (operations-of (E·Element .width) (E·Element .lawful) (E·Element .reading) 0 (now (program .entry)))) ⌝ }
+    ensures { λ r. ⌜ made r (λ _. vec-items (now (out .exit)) ≡ vec-items (now (out .entry)) ++ joined (operation-text (E·Element .printed)) (operations-of (E·Element .format) 0 (now (program .entry)))) ⌝ }
 {
     let mut rest = program;
     while let Ok(operation) = read_operation::<E>(rest, 0) {
@@ -61,7 +61,7 @@ pub(crate) fn append_program<E: Element>(
     thread: usize,
     program: &[u8],
 ) -> Result<(), AllocError>
-    ensures { λ r. ⌜ made r (λ _. vec-items (now (out .exit)) ≡ vec-items (now (out .entry)) ++ program-line (E·Element .printed) thread (operations-of (E·Element .width) (E·Element .lawful) (E·Element .reading) 0 (now (program .entry)))) ⌝ }
+    ensures { λ r. ⌜ made r (λ _. vec-items (now (out .exit)) ≡ vec-items (now (out .entry)) ++ program-line (E·Element .printed) thread (operations-of (E·Element .format) 0 (now (program .entry)))) ⌝ }
 {
     append_bytes(out, b"program ")?;
     append_decimal(out, thread as u64)?;

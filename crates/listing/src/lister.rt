@@ -83,7 +83,7 @@ fn append_refusal(out: &mut Vec<u8>, fault: Fault) -> Result<(), AllocError>
 fn append_programs<E: Element>(out: &mut Vec<u8>, run: &RunFile) -> Result<(), AllocError>
     requires bodies { ⌜ length (contentsOf (now run) .bodies) ≡ now run .header .threads + 3 ⌝ }
     requires few { ⌜ now run .header .threads ≤ 64 ⌝ }
-    ensures { λ r. ⌜ made r (λ _. vec-items (now (out .exit)) ≡ vec-items (now (out .entry)) ++ program-lines (E·Element .width) (E·Element .lawful) (E·Element .reading) (E·Element .printed) 0 (programs-in (now (run .entry) .header .threads) (contentsOf (now (run .entry)) .bodies))) ⌝ }
+    ensures { λ r. ⌜ made r (λ _. vec-items (now (out .exit)) ≡ vec-items (now (out .entry)) ++ program-lines (E·Element .format) (E·Element .printed) 0 (programs-in (now (run .entry) .header .threads) (contentsOf (now (run .entry)) .bodies))) ⌝ }
 {
     let mut thread = 0;
     while let Some(program) = run.program(thread) {

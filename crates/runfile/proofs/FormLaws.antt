@@ -25,7 +25,7 @@ use Rattle.runfile.specs.declared.operation.Operation.{Operation}
 use Rattle.runfile.specs.declared.operation.Operation.the-variants.{Push, Pop}
 use Rattle.runfile.specs.declared.table.Entry.{Entry}
 use Rattle.runfile.specs.Chains.{chain}
-use Rattle.runfile.specs.Elements.{element, number-lawful, number-reading, letter-lawful, letter-reading}
+use Rattle.runfile.specs.Elements.{Format, element, number-format, letter-format}
 use Rattle.runfile.specs.Faults.{cut, contents, body, tail}
 use Rattle.runfile.specs.Files.{Contents, counted, table, divided, programs-checked, run-checked, bodies-checked, programs-in, lead-in-in, main-in, parsed}
 use Rattle.runfile.specs.Forms.{entries-for, element-code, bank-code, Program, done, pop, push, Programs, Read, Described, Formed}
@@ -78,60 +78,60 @@ listed-for count i (x ∷ es) bytes end bs u t e =
     ∙ ap (λ h. h ∷ entries-for count (i + 1) (k .0)) head
     ∙ ap (entries-for count i) (ok-same (take (x .size) bytes ∷ k .0) bs (k .2))
 
-module _ {T : Type 0} (width : ℕ) (lawful : List ℕ → Bool) (reading : List ℕ → T) where
+module _ {T : Type 0} (form : Format T) where
   -- a push: its element is whole and lawful
-  element-ok : (bytes : List ℕ) (place : ℕ) (e : T) → element width lawful reading bytes place ≡ Ok e → (width ≤ length bytes) × (lawful (take width bytes) ≡ true)
+  element-ok : (bytes : List ℕ) (place : ℕ) (e : T) → element form bytes place ≡ Ok e → (form .width ≤ length bytes) × (form .lawful (take (form .width) bytes) ≡ true)
   element-ok bytes place e h =
-      let a = cond-not-ok (ltb (length bytes) width) _ (body place) e h in
-      let b = cond-ok (lawful (take width bytes)) _ (body place) e (a .1) in
-      (ltb-false (length bytes) width (a .0), b .0)
+      let a = cond-not-ok (ltb (length bytes) (form .width)) _ (body place) e h in
+      let b = cond-ok (form .lawful (take (form .width) bytes)) _ (body place) e (a .1) in
+      (ltb-false (length bytes) (form .width) (a .0), b .0)
 
   -- the first operation of a program, before a program
-  lawful-first : (code : ℕ) (bytes : List ℕ) (place : ℕ) (o : Operation T) → operation width lawful reading (code ∷ bytes) place ≡ Ok o → (wide width o - 1 ≤ length bytes) × (Program width lawful (drop (wide width o - 1) bytes) → Program width lawful (code ∷ bytes))
+  lawful-first : (code : ℕ) (bytes : List ℕ) (place : ℕ) (o : Operation T) → operation form (code ∷ bytes) place ≡ Ok o → (wide (form .width) o - 1 ≤ length bytes) × (Program form (drop (wide (form .width) o - 1) bytes) → Program form (code ∷ bytes))
   lawful-first code bytes place o h = elim (cases-eq code 0x50) [
     | inl is ↦ (
-        let c : chain (element width lawful reading bytes place) (λ e. Ok (Push e)) ≡ Ok o = (rw (eq-eqb code 0x50 is) at h) in
-        let k = chain-ok (element width lawful reading bytes place) (λ e. Ok (Push e)) o c in
+        let c : chain (element form bytes place) (λ e. Ok (Push e)) ≡ Ok o = (rw (eq-eqb code 0x50 is) at h) in
+        let k = chain-ok (element form bytes place) (λ e. Ok (Push e)) o c in
         let l = element-ok bytes place (k .0) (k .1) in
-        let w : wide width o - 1 ≡ width = (ap (λ p. wide width p - 1) (sym (ok-same (Push (k .0)) o (k .2))) ∙ omega arith) in
-        (omega (arith, l .0), λ p. rw is (subst (λ l. Program width lawful (0x50 ∷ l)) (take-append-drop width bytes) (push (length-take-le width bytes (l .0)) (l .1) (rw w at p)))))
+        let w : wide (form .width) o - 1 ≡ form .width = (ap (λ p. wide (form .width) p - 1) (sym (ok-same (Push (k .0)) o (k .2))) ∙ omega arith) in
+        (omega (arith, l .0), λ p. rw is (subst (λ l. Program form (0x50 ∷ l)) (take-append-drop (form .width) bytes) (push (length-take-le (form .width) bytes (l .0)) (l .1) (rw w at p)))))
     | inr not ↦ (
         let c : cond (eqb code 0x44) (Ok Pop) (Err (body place)) ≡ Ok o = (rw (ne-eqb code 0x50 not) at h) in
         let k = cond-ok (eqb code 0x44) (Ok Pop) (body place) o c in
-        let w : wide width o - 1 ≡ 0 = ap (λ p. wide width p - 1) (sym (ok-same Pop o (k .1))) in
+        let w : wide (form .width) o - 1 ≡ 0 = ap (λ p. wide (form .width) p - 1) (sym (ok-same Pop o (k .1))) in
         let is = eqb-true code 0x44 (k .0) in
         (omega arith, λ p. rw is (pop (rw w at p))))
   ]
 
-  lawful-from : (skip : ℕ) (bytes : List ℕ) (place : ℕ) (os : List (Operation T)) → skip ≤ length bytes → operations width lawful reading skip bytes place ≡ Ok os → Program width lawful (drop skip bytes)
+  lawful-from : (skip : ℕ) (bytes : List ℕ) (place : ℕ) (os : List (Operation T)) → skip ≤ length bytes → operations form skip bytes place ≡ Ok os → Program form (drop skip bytes)
   lawful-from zero [] place os h e = done
   lawful-from (suc skip) [] place os h e = absurd (omega arith)
   lawful-from (suc skip) (b ∷ bytes) place os h e = lawful-from skip bytes (place + 1) os (omega arith) e
   lawful-from zero (b ∷ bytes) place os h e =
-      let k = chain-ok (operation width lawful reading (b ∷ bytes) place) _ os e in
-      let m = chain-ok (operations width lawful reading (wide width (k .0) - 1) bytes (place + 1)) _ os (k .2) in
+      let k = chain-ok (operation form (b ∷ bytes) place) _ os e in
+      let m = chain-ok (operations form (wide (form .width) (k .0) - 1) bytes (place + 1)) _ os (k .2) in
       let f = lawful-first b bytes place (k .0) (k .1) in
-      f .1 (lawful-from (wide width (k .0) - 1) bytes (place + 1) (m .0) (f .0) (m .1))
+      f .1 (lawful-from (wide (form .width) (k .0) - 1) bytes (place + 1) (m .0) (f .0) (m .1))
 
-  lawful-all : (ps : List (List ℕ)) (place end : ℕ) → programmed width lawful reading ps place ≡ Ok end → All (Program width lawful) ps
+  lawful-all : (ps : List (List ℕ)) (place end : ℕ) → programmed form ps place ≡ Ok end → All (Program form) ps
   lawful-all [] place end e = tt
   lawful-all (p ∷ ps) place end e =
-      let k = chain-ok (operations width lawful reading 0 p place) (λ _. programmed width lawful reading ps (place + length p)) end e in
+      let k = chain-ok (operations form 0 p place) (λ _. programmed form ps (place + length p)) end e in
       (lawful-from 0 p place (k .0) (omega arith) (k .1), lawful-all ps (place + length p) end (k .2))
 
-  read-all : (ps : List (List ℕ)) (place end : ℕ) → programmed width lawful reading ps place ≡ Ok end → All (λ p. (q : ℕ) → operations width lawful reading 0 p q ≡ Ok (operations-of width lawful reading 0 p)) ps
+  read-all : (ps : List (List ℕ)) (place end : ℕ) → programmed form ps place ≡ Ok end → All (λ p. (q : ℕ) → operations form 0 p q ≡ Ok (operations-of form 0 p)) ps
   read-all [] place end e = tt
   read-all (p ∷ ps) place end e =
-      let k = chain-ok (operations width lawful reading 0 p place) (λ _. programmed width lawful reading ps (place + length p)) end e in
-      (λ q. operations-all width lawful reading 0 p place q (k .0) (k .1), read-all ps (place + length p) end (k .2))
+      let k = chain-ok (operations form 0 p place) (λ _. programmed form ps (place + length p)) end e in
+      (λ q. operations-all form 0 p place q (k .0) (k .1), read-all ps (place + length p) end (k .2))
 
 read-programs : (kind : ElementKind) (ps : List (List ℕ)) (place end : ℕ) → programs-checked kind ps place ≡ Ok end → Read kind ps
-read-programs Number ps place end e = read-all 4 number-lawful number-reading ps place end e
-read-programs Letter ps place end e = read-all 6 letter-lawful letter-reading ps place end e
+read-programs Number ps place end e = read-all number-format ps place end e
+read-programs Letter ps place end e = read-all letter-format ps place end e
 
 lawful-programs : (kind : ElementKind) (ps : List (List ℕ)) (place end : ℕ) → programs-checked kind ps place ≡ Ok end → Programs kind ps
-lawful-programs Number ps place end e = lawful-all 4 number-lawful number-reading ps place end e
-lawful-programs Letter ps place end e = lawful-all 6 letter-lawful letter-reading ps place end e
+lawful-programs Number ps place end e = lawful-all number-format ps place end e
+lawful-programs Letter ps place end e = lawful-all letter-format ps place end e
 
 -- the count, the table and the bodies are the whole file
 whole-file : (count : ℕ) (file : List ℕ) (bs : List (List ℕ)) → getD file 0 0 ≡ count → 1 + 5 * count ≤ length file → joined (λ b. b) bs ≡ drop (1 + 5 * count) file → file ≡ count ∷ (table count file ++ joined (λ b. b) bs)

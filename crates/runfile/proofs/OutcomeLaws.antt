@@ -21,7 +21,7 @@ use Rattle.runfile.specs.declared.kinds.ElementKind.{ElementKind}
 use Rattle.runfile.specs.declared.kinds.ElementKind.the-variants.{Number, Letter}
 use Rattle.runfile.specs.declared.table.Entry.{Entry}
 use Rattle.runfile.specs.Chains.{chain}
-use Rattle.runfile.specs.Elements.{number-lawful, number-reading, letter-lawful, letter-reading}
+use Rattle.runfile.specs.Elements.{Format, number-format, letter-format}
 use Rattle.runfile.specs.Faults.{cut, contents, body, tail}
 use Rattle.runfile.specs.Files.{counted, table, divided, programs-checked}
 use Rattle.runfile.specs.Headers.{headed, slots-right}
@@ -108,14 +108,14 @@ headed-ok count (s ∷ t ∷ k ∷ m ∷ []) place h e =
     })
 headed-ok count (s ∷ t ∷ k ∷ m ∷ x ∷ more) place h e = absurd (never h (body place) (sym e))
 
-pub programmed-end : {T : Type 0} (width : ℕ) (lawful : List ℕ → Bool) (reading : List ℕ → T) (ps : List (List ℕ)) (place end : ℕ) → programmed width lawful reading ps place ≡ Ok end → end ≡ place + length (joined (λ p. p) ps)
-programmed-end width lawful reading [] place end e = sym (ok-same place end e) ∙ sym (add-zero place)
-programmed-end width lawful reading (p ∷ ps) place end e =
-    let k = chain-ok (operations width lawful reading 0 p place) (λ _. programmed width lawful reading ps (place + length p)) end e in
-    let m = programmed-end width lawful reading ps (place + length p) end (k .2) in
+pub programmed-end : {T : Type 0} (form : Format T) (ps : List (List ℕ)) (place end : ℕ) → programmed form ps place ≡ Ok end → end ≡ place + length (joined (λ p. p) ps)
+programmed-end form [] place end e = sym (ok-same place end e) ∙ sym (add-zero place)
+programmed-end form (p ∷ ps) place end e =
+    let k = chain-ok (operations form 0 p place) (λ _. programmed form ps (place + length p)) end e in
+    let m = programmed-end form ps (place + length p) end (k .2) in
     let l = length-append p (joined (λ p. p) ps) in
     omega arith
 
 pub programs-end : (kind : ElementKind) (ps : List (List ℕ)) (place end : ℕ) → programs-checked kind ps place ≡ Ok end → end ≡ place + length (joined (λ p. p) ps)
-programs-end Number ps place end e = programmed-end 4 number-lawful number-reading ps place end e
-programs-end Letter ps place end e = programmed-end 6 letter-lawful letter-reading ps place end e
+programs-end Number ps place end e = programmed-end number-format ps place end e
+programs-end Letter ps place end e = programmed-end letter-format ps place end e

@@ -21,7 +21,7 @@ use Rattle.runfile.specs.declared.table.Entry.{Entry}
 use Rattle.runfile.specs.Chains.{chain}
 use Rattle.runfile.specs.declared.kinds.ElementKind.{ElementKind}
 use Rattle.runfile.specs.declared.kinds.ElementKind.the-variants.{Number, Letter}
-use Rattle.runfile.specs.Elements.{element, number-lawful, number-reading, letter-lawful, letter-reading}
+use Rattle.runfile.specs.Elements.{Format, element, number-format, letter-format}
 use Rattle.runfile.specs.Files.{counted, table, divided, programs-checked, run-checked, bodies-checked, programs-in, lead-in-in, main-in, parsed}
 use Rattle.runfile.specs.Headers.{headed, slots-right}
 use Rattle.runfile.specs.Kinds.{elementKind, bankKind}
@@ -63,26 +63,26 @@ pub bodied-until : (es : List Entry) (bytes : List ℕ) (end : ℕ) → Until en
 bodied-until [] bytes end = until-cond end (eqb (length bytes) 0) (Ok []) (Err (tail (end - length bytes))) (λ _. tt) (λ _. omega arith)
 bodied-until (e ∷ es) bytes end = until-cond end (ltb (length bytes) (e .size)) (Err (cut end)) (chain (bodied es (drop (e .size) bytes) end) (λ bs. Ok (take (e .size) bytes ∷ bs))) (λ _. omega arith) (λ _. until-chain end (bodied es (drop (e .size) bytes) end) (λ bs. Ok (take (e .size) bytes ∷ bs)) (bodied-until es (drop (e .size) bytes) end) (λ bs o. tt))
 
-module _ {T : Type 0} (width : ℕ) (lawful : List ℕ → Bool) (reading : List ℕ → T) where
-  operation-until : (bytes : List ℕ) (place n : ℕ) → place ≤ n → Until n (operation width lawful reading bytes place)
+module _ {T : Type 0} (form : Format T) where
+  operation-until : (bytes : List ℕ) (place n : ℕ) → place ≤ n → Until n (operation form bytes place)
   operation-until [] place n h = h
   operation-until (code ∷ bytes) place n h =
-      until-cond n (eqb code 0x50) (chain (element width lawful reading bytes place) _) (cond (eqb code 0x44) _ (Err (body place)))
-      (λ _. until-chain n (element width lawful reading bytes place) _ (until-cond n (ltb (length bytes) width) (Err (body place)) _ (λ _. h) (λ _. until-cond n (lawful (take width bytes)) _ (Err (body place)) (λ _. tt) (λ _. h))) (λ e o. tt))
+      until-cond n (eqb code 0x50) (chain (element form bytes place) _) (cond (eqb code 0x44) _ (Err (body place)))
+      (λ _. until-chain n (element form bytes place) _ (until-cond n (ltb (length bytes) (form .width)) (Err (body place)) _ (λ _. h) (λ _. until-cond n (form .lawful (take (form .width) bytes)) _ (Err (body place)) (λ _. tt) (λ _. h))) (λ e o. tt))
       (λ _. until-cond n (eqb code 0x44) _ (Err (body place)) (λ _. tt) (λ _. h))
 
-  operations-until : (skip : ℕ) (bytes : List ℕ) (place n : ℕ) → place + length bytes ≤ n → Until n (operations width lawful reading skip bytes place)
+  operations-until : (skip : ℕ) (bytes : List ℕ) (place n : ℕ) → place + length bytes ≤ n → Until n (operations form skip bytes place)
   operations-until skip [] place n h = tt
   operations-until (suc skip) (b ∷ bytes) place n h = operations-until skip bytes (place + 1) n (omega arith)
   operations-until zero (b ∷ bytes) place n h =
-      until-chain n (operation width lawful reading (b ∷ bytes) place) _ (operation-until (b ∷ bytes) place n (omega arith))
-      (λ o _. until-chain n (operations width lawful reading (wide width o - 1) bytes (place + 1)) _ (operations-until (wide width o - 1) bytes (place + 1) n (omega arith)) (λ os _. tt))
+      until-chain n (operation form (b ∷ bytes) place) _ (operation-until (b ∷ bytes) place n (omega arith))
+      (λ o _. until-chain n (operations form (wide (form .width) o - 1) bytes (place + 1)) _ (operations-until (wide (form .width) o - 1) bytes (place + 1) n (omega arith)) (λ os _. tt))
 
-  pub programmed-until : (ps : List (List ℕ)) (place n : ℕ) → place + length (joined (λ p. p) ps) ≤ n → Until n (programmed width lawful reading ps place)
+  pub programmed-until : (ps : List (List ℕ)) (place n : ℕ) → place + length (joined (λ p. p) ps) ≤ n → Until n (programmed form ps place)
   programmed-until [] place n h = tt
   programmed-until (p ∷ ps) place n h =
       let l = length-append p (joined (λ p. p) ps) in
-      until-chain n (operations width lawful reading 0 p place) _ (operations-until 0 p place n (omega arith))
+      until-chain n (operations form 0 p place) _ (operations-until 0 p place n (omega arith))
       (λ os _. programmed-until ps (place + length p) n (omega arith))
 
 okOr-until : {A : Type 0} (n : ℕ) (o : Option A) (f : Fault) → f .place ≤ n → Until n (okOr o f)
@@ -104,8 +104,8 @@ headed-until count (s ∷ t ∷ e ∷ b ∷ []) place n h =
 headed-until count (s ∷ t ∷ e ∷ b ∷ x ∷ more) place n h = omega arith
 
 programs-until : (kind : ElementKind) (ps : List (List ℕ)) (place n : ℕ) → place + length (joined (λ p. p) ps) ≤ n → Until n (programs-checked kind ps place)
-programs-until Number ps place n h = programmed-until 4 number-lawful number-reading ps place n h
-programs-until Letter ps place n h = programmed-until 6 letter-lawful letter-reading ps place n h
+programs-until Number ps place n h = programmed-until number-format ps place n h
+programs-until Letter ps place n h = programmed-until letter-format ps place n h
 
 run-until : (h : Header) (programs : List (List ℕ)) (lead-in main : List ℕ) (place n : ℕ) → place + length (joined (λ p. p) programs) + length lead-in + length main ≤ n → Until n (run-checked h programs lead-in main place)
 run-until h programs lead-in main place n room =

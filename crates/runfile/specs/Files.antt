@@ -15,7 +15,7 @@ use Rattle.runfile.specs.declared.kinds.ElementKind.the-variants.{Number, Lett
 use Rattle.runfile.specs.declared.kinds.BankKind.{BankKind}
 use Rattle.runfile.specs.declared.runs.RunFile.{RunFile}
 use Rattle.runfile.specs.Chains.{chain}
-use Rattle.runfile.specs.Elements.{number-lawful, number-reading, letter-lawful, letter-reading}
+use Rattle.runfile.specs.Elements.{number-format, letter-format}
 use Rattle.runfile.specs.Faults.{cut, contents, tail}
 use Rattle.runfile.specs.Headers.{headed}
 use Rattle.runfile.specs.Programs.{programmed}
@@ -43,8 +43,8 @@ divided count file =
 
 -- every operation is right; where the programs end
 abbrev pub programs-checked : ElementKind → List (List ℕ) → ℕ → Result ℕ Fault
-programs-checked Number ps place = programmed 4 number-lawful number-reading ps place
-programs-checked Letter ps place = programmed 6 letter-lawful letter-reading ps place
+programs-checked Number ps place = programmed number-format ps place
+programs-checked Letter ps place = programmed letter-format ps place
 
 -- first every operation, then every schedule byte; the programs begin at `place`
 abbrev pub run-checked : Header → List (List ℕ) → List ℕ → List ℕ → ℕ → Result (Unit {0}) Fault

@@ -15,7 +15,7 @@ use Rattle.runfile.specs.declared.kinds.ElementKind.the-variants.{Number, Lett
 use Rattle.runfile.specs.declared.kinds.BankKind.{BankKind}
 use Rattle.runfile.specs.declared.kinds.BankKind.the-variants.{Word, Nibble}
 use Rattle.runfile.specs.declared.table.Entry.{Entry}
-use Rattle.runfile.specs.Elements.{number-lawful, number-reading, letter-lawful, letter-reading}
+use Rattle.runfile.specs.Elements.{Format, number-format, letter-format}
 use Rattle.runfile.specs.Files.{Contents, programs-in, lead-in-in, main-in}
 use Rattle.runfile.specs.Programs.{operations, operations-of}
 use Rattle.runfile.specs.Tables.{entries, expected}
@@ -33,20 +33,20 @@ abbrev pub bank-code : BankKind → ℕ
 bank-code Word = 1
 bank-code Nibble = 2
 
--- a program of elements that are `width` bytes wide: whole operations, one after another
-pub data Program (width : ℕ) (lawful : List ℕ → Bool) : List ℕ → Type 0 where
-  done : Program width lawful []
-  pop : {rest : List ℕ} → Program width lawful rest → Program width lawful (0x44 ∷ rest)
-  push : {bytes rest : List ℕ} → length bytes ≡ width → lawful bytes ≡ true → Program width lawful rest → Program width lawful (0x50 ∷ (bytes ++ rest))
+-- a program of elements of one kind: whole operations, one after another
+pub data Program {T : Type 0} (form : Format T) : List ℕ → Type 0 where
+  done : Program form []
+  pop : {rest : List ℕ} → Program form rest → Program form (0x44 ∷ rest)
+  push : {bytes rest : List ℕ} → length bytes ≡ form .width → form .lawful bytes ≡ true → Program form rest → Program form (0x50 ∷ (bytes ++ rest))
 
 abbrev pub Programs : ElementKind → List (List ℕ) → Type 0
-Programs Number ps = All (Program 4 number-lawful) ps
-Programs Letter ps = All (Program 6 letter-lawful) ps
+Programs Number ps = All (Program number-format) ps
+Programs Letter ps = All (Program letter-format) ps
 
 -- read one after another, the operations of each program are all of it, wherever it stands
 abbrev pub Read : ElementKind → List (List ℕ) → Type 0
-Read Number ps = All (λ p. (place : ℕ) → operations 4 number-lawful number-reading 0 p place ≡ Ok (operations-of 4 number-lawful number-reading 0 p)) ps
-Read Letter ps = All (λ p. (place : ℕ) → operations 6 letter-lawful letter-reading 0 p place ≡ Ok (operations-of 6 letter-lawful letter-reading 0 p)) ps
+Read Number ps = All (λ p. (place : ℕ) → operations number-format 0 p place ≡ Ok (operations-of number-format 0 p)) ps
+Read Letter ps = All (λ p. (place : ℕ) → operations letter-format 0 p place ≡ Ok (operations-of letter-format 0 p)) ps
 
 -- a file that holds these contents
 pub record Described (file : List ℕ) (c : Contents) : Type 0 where

@@ -10,7 +10,7 @@ use Rattle.runfile.specs.declared.fault.Fault.{Fault}
 use Rattle.runfile.specs.declared.operation.Operation.{Operation}
 use Rattle.runfile.specs.declared.operation.Operation.the-variants.{Push, Pop}
 use Rattle.runfile.specs.Chains.{chain}
-use Rattle.runfile.specs.Elements.{element}
+use Rattle.runfile.specs.Elements.{Format, element}
 use Rattle.runfile.specs.Faults.{body}
 
 -- how many bytes an operation has in a program whose elements are `width` bytes wide
@@ -19,34 +19,34 @@ wide width (Push e) = 1 + width
 wide width Pop = 1
 
 -- the operation at the start of `program`, which begins at `place`
-abbrev pub operation : {T : Type 0} → ℕ → (List ℕ → Bool) → (List ℕ → T) → List ℕ → ℕ → Result (Operation T) Fault
-operation width lawful reading [] place = Err (body place)
-operation width lawful reading (code ∷ bytes) place =
-    cond (eqb code 0x50) (chain (element width lawful reading bytes place) (λ e. Ok (Push e)))
+abbrev pub operation : {T : Type 0} → Format T → List ℕ → ℕ → Result (Operation T) Fault
+operation form [] place = Err (body place)
+operation form (code ∷ bytes) place =
+    cond (eqb code 0x50) (chain (element form bytes place) (λ e. Ok (Push e)))
     (cond (eqb code 0x44) (Ok Pop) (Err (body place)))
 
 -- all operations of a program, or the fault of the first wrong one;
 -- the first `skip` bytes still belong to the operation before
-abbrev pub operations : {T : Type 0} → ℕ → (List ℕ → Bool) → (List ℕ → T) → ℕ → List ℕ → ℕ → Result (List (Operation T)) Fault
-operations width lawful reading skip [] place = Ok []
-operations width lawful reading (suc skip) (b ∷ bytes) place = operations width lawful reading skip bytes (place + 1)
-operations width lawful reading zero (b ∷ bytes) place =
-    chain (operation width lawful reading (b ∷ bytes) place)
-    (λ o. chain (operations width lawful reading (wide width o - 1) bytes (place + 1)) (λ os. Ok (o ∷ os)))
+abbrev pub operations : {T : Type 0} → Format T → ℕ → List ℕ → ℕ → Result (List (Operation T)) Fault
+operations form skip [] place = Ok []
+operations form (suc skip) (b ∷ bytes) place = operations form skip bytes (place + 1)
+operations form zero (b ∷ bytes) place =
+    chain (operation form (b ∷ bytes) place)
+    (λ o. chain (operations form (wide (form .width) o - 1) bytes (place + 1)) (λ os. Ok (o ∷ os)))
 
 -- the operations of a program up to its first wrong one: all of them, in a file that is accepted
 abbrev pub first-then : {A B : Type 0} → Result A Fault → (A → List B) → List B
 first-then (Ok a) next = next a
 first-then (Err f) next = []
 
-abbrev pub operations-of : {T : Type 0} → ℕ → (List ℕ → Bool) → (List ℕ → T) → ℕ → List ℕ → List (Operation T)
-operations-of width lawful reading skip [] = []
-operations-of width lawful reading (suc skip) (b ∷ bytes) = operations-of width lawful reading skip bytes
-operations-of width lawful reading zero (b ∷ bytes) =
-    first-then (operation width lawful reading (b ∷ bytes) 0) (λ o. o ∷ operations-of width lawful reading (wide width o - 1) bytes)
+abbrev pub operations-of : {T : Type 0} → Format T → ℕ → List ℕ → List (Operation T)
+operations-of form skip [] = []
+operations-of form (suc skip) (b ∷ bytes) = operations-of form skip bytes
+operations-of form zero (b ∷ bytes) =
+    first-then (operation form (b ∷ bytes) 0) (λ o. o ∷ operations-of form (wide (form .width) o - 1) bytes)
 
 -- programs one after another: where they end, or the fault of the first wrong operation
-abbrev pub programmed : {T : Type 0} → ℕ → (List ℕ → Bool) → (List ℕ → T) → List (List ℕ) → ℕ → Result ℕ Fault
-programmed width lawful reading [] place = Ok place
-programmed width lawful reading (p ∷ ps) place =
-    chain (operations width lawful reading 0 p place) (λ _. programmed width lawful reading ps (place + length p))
+abbrev pub programmed : {T : Type 0} → Format T → List (List ℕ) → ℕ → Result ℕ Fault
+programmed form [] place = Ok place
+programmed form (p ∷ ps) place =
+    chain (operations form 0 p place) (λ _. programmed form ps (place + length p))

@@ -1,6 +1,6 @@
 // Elements that are letters: who sent it, in which tone, and its serial number.
 ghost use mathlib.Core.Path.{_≡_};
-ghost use Rattle.runfile.specs.Elements.{letter-lawful, letter-reading, letter-text, mark};
+ghost use Rattle.runfile.specs.Elements.{letter-format, letter-text, mark};
 use super::element::Element;
 use super::fault::Fault;
 use text::holder::Text;
@@ -33,11 +33,7 @@ impl Tone {
 pub impl Element for Letter as LetterElement {
     const WIDTH: usize = 6;
 
-    ghost width = { 6 };
-
-    ghost lawful = { letter-lawful };
-
-    ghost reading = { letter-reading };
+    ghost format = { letter-format };
 
     ghost printed = { letter-text };
 

@@ -1,6 +1,6 @@
 // Elements that are numbers.
 ghost use mathlib.Core.Path.{_≡_};
-ghost use Rattle.runfile.specs.Elements.{number-lawful, number-reading, number-text};
+ghost use Rattle.runfile.specs.Elements.{number-format, number-text};
 use super::element::Element;
 use super::fault::Fault;
 use text::holder::Text;
@@ -13,11 +13,7 @@ pub struct Number {
 pub impl Element for Number as NumberElement {
     const WIDTH: usize = 4;
 
-    ghost width = { 4 };
-
-    ghost lawful = { number-lawful };
-
-    ghost reading = { number-reading };
+    ghost format = { number-format };
 
     ghost printed = { number-text };
 

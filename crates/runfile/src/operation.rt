@@ -19,7 +19,7 @@ pub enum Operation<E> {
 impl<E: Element> Operation<E> {
     // How many bytes the operation has in a program.
     pub fn byte_count(&self) -> usize
-        ensures { λ r. ⌜ r ≡ wide (E·Element .width) (now (self .entry)) ⌝ }
+        ensures { λ r. ⌜ r ≡ wide (E·Element .format .width) (now (self .entry)) ⌝ }
     {
         match self {
             Operation::Push(_) => 1 + E::byte_count(),
@@ -30,8 +30,8 @@ impl<E: Element> Operation<E> {
 
 // The operation at the start of `program`, which begins at the place `place` of the file.
 pub fn read_operation<E: Element>(program: &[u8], place: usize) -> Result<Operation<E>, Fault>
-    ensures value { λ r. ⌜ r ≡ operation (E·Element .width) (E·Element .lawful) (E·Element .reading) (now (program .entry)) place ⌝ }
-    ensures within { λ r. ⌜ made r (λ o. wide (E·Element .width) o ≤ length (now (program .entry))) ⌝ }
+    ensures value { λ r. ⌜ r ≡ operation (E·Element .format) (now (program .entry)) place ⌝ }
+    ensures within { λ r. ⌜ made r (λ o. wide (E·Element .format .width) o ≤ length (now (program .entry))) ⌝ }
 {
     match program {
         [0x50, bytes @ ..] => {
@@ -46,7 +46,7 @@ pub fn read_operation<E: Element>(program: &[u8], place: usize) -> Result<Operat
 // Refuses a program at its first wrong operation.
 pub(crate) fn check_program<E: Element>(program: &[u8], place: usize) -> Result<(), Fault>
     requires { ⌜ place + length (now program) ≤ 49152 ⌝ }
-    ensures { λ r. ⌜ r ≡ sound (operations (E·Element .width) (E·Element .lawful) (E·Element .reading) 0 (now (program .entry)) place) ⌝ }
+    ensures { λ r. ⌜ r ≡ sound (operations (E·Element .format) 0 (now (program .entry)) place) ⌝ }
 {
     let mut rest = program;
     let mut at = place;
@@ -62,7 +62,7 @@ pub(crate) fn check_program<E: Element>(program: &[u8], place: usize) -> Result<
 // Refuses programs that stand one after another from `place` on, at the first wrong operation; answers where they end.
 pub(crate) fn check_programs<E: Element>(programs: &[&[u8]], place: usize) -> Result<usize, Fault>
     requires { ⌜ place + length (joined (λ p. now p) (now programs)) ≤ 49152 ⌝ }
-    ensures value { λ r. ⌜ r ≡ programmed (E·Element .width) (E·Element .lawful) (E·Element .reading) (map (λ p. now p) (now (programs .entry))) place ⌝ }
+    ensures value { λ r. ⌜ r ≡ programmed (E·Element .format) (map (λ p. now p) (now (programs .entry))) place ⌝ }
     ensures end { λ r. ⌜ made r (λ e. e ≡ place + length (joined (λ p. now p) (now (programs .entry)))) ⌝ }
 {
     let mut at = place;

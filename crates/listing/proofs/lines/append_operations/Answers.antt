@@ -15,6 +15,6 @@ loop-operation-again g c =
     let rest = c .loop-operation .rest .now in
     let o = c .in-Ok .operation in
     let v = c .byte-count .ensures in
-    let m = operations-of-more (g .E·Element .width) (g .E·Element .lawful) (g .E·Element .reading) rest o (c .in-Ok .ensures tt .value) (c .in-Ok .ensures tt .within) in
-    let n = m ∙ ap (λ w. o ∷ operations-of (g .E·Element .width) (g .E·Element .lawful) (g .E·Element .reading) 0 (take (length rest - w) (drop w rest))) (sym v) in
+    let m = operations-of-more (g .E·Element .format) rest o (c .in-Ok .ensures tt .value) (c .in-Ok .ensures tt .within) in
+    let n = m ∙ ap (λ w. o ∷ operations-of (g .E·Element .format) 0 (take (length rest - w) (drop w rest))) (sym v) in
     next-item (vec-items (c .loop-operation .out)) (vec-items (c .append-operation .last .out)) (operation-text (g .E·Element .printed) o) _ _ _ (c .in-Continue-append-operation .ensures tt) (ap (joined (operation-text (g .E·Element .printed))) n) (c .loop-operation .inv)

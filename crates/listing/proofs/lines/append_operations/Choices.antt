@@ -9,8 +9,8 @@ use Rattle.listing.proofs.lines.append_operations.Given as given
 
 abbrev pub Inv-loop-operation : given.InvT-loop-operation
 Inv-loop-operation g l =
-    vec-items (l .out) ++ joined (operation-text (g .E·Element .printed)) (operations-of (g .E·Element .width) (g .E·Element .lawful) (g .E·Element .reading) 0 (l .rest))
-    ≡ vec-items (l .entry .out) ++ joined (operation-text (g .E·Element .printed)) (operations-of (g .E·Element .width) (g .E·Element .lawful) (g .E·Element .reading) 0 (l .entry .rest))
+    vec-items (l .out) ++ joined (operation-text (g .E·Element .printed)) (operations-of (g .E·Element .format) 0 (l .rest))
+    ≡ vec-items (l .entry .out) ++ joined (operation-text (g .E·Element .printed)) (operations-of (g .E·Element .format) 0 (l .entry .rest))
 
 abbrev pub μ-loop-operation : given.MeasureT-loop-operation
 μ-loop-operation g l = length (l .rest)

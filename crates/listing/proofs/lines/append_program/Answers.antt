@@ -14,7 +14,7 @@ returns g c =
     let start = vec-items (c .args .out .now) in
     let word = codes "program " in
     let number = decimal (c .args .thread) in
-    let text = joined (operation-text (g .E·Element .printed)) (operations-of (g .E·Element .width) (g .E·Element .lawful) (g .E·Element .reading) 0 (c .args .program .now)) in
+    let text = joined (operation-text (g .E·Element .printed)) (operations-of (g .E·Element .format) 0 (c .args .program .now)) in
     let a = after-piece start word (word ++ number) number _ _ (c .in-Continue-append-bytes .ensures tt) (c .in-Continue-append-decimal .ensures tt) refl in
     let b = after-piece start (word ++ number) ((word ++ number) ++ text) text _ _ a (c .in-Continue-append-operations .ensures tt) refl in
     last-piece (c .append-bytes-2 .result) start ((word ++ number) ++ text) _ line-feed _ _ b (simp append-assoc) (c .append-bytes-2 .ensures)

@@ -26,11 +26,11 @@ loop-program-again g c =
     let b = thread-below (contentsOf run) k (c .in-Some .program .now) (c .in-Some .ensures tt) in
     let l = count-programs (run .header .threads) (contentsOf run .bodies) (c .pre .bodies) in
     let within : k < length ps = omega arith in
-    let line : List ℕ → List ℕ = λ p. program-line (g .E·Element .printed) k (operations-of (g .E·Element .width) (g .E·Element .lawful) (g .E·Element .reading) 0 p) in
+    let line : List ℕ → List ℕ = λ p. program-line (g .E·Element .printed) k (operations-of (g .E·Element .format) 0 p) in
     let p = ap line (program-at (contentsOf run) k (c .in-Some .program .now) (c .in-Some .ensures tt)) in
-    let m = at-drop-more (program-lines (g .E·Element .width) (g .E·Element .lawful) (g .E·Element .reading) (g .E·Element .printed) k) ps k [] within in
+    let m = at-drop-more (program-lines (g .E·Element .format) (g .E·Element .printed) k) ps k [] within in
     let e = c .in-Continue-append-program .ensures tt in
-    (next-item (vec-items (c .loop-program .out)) (vec-items (c .append-program .last .out)) (line (c .in-Some .program .now)) _ _ _ e (m ∙ ap (λ l. l ++ program-lines (g .E·Element .width) (g .E·Element .lawful) (g .E·Element .reading) (g .E·Element .printed) (k + 1) (drop (k + 1) ps)) (sym p)) (c .loop-program .inv .0), omega arith)
+    (next-item (vec-items (c .loop-program .out)) (vec-items (c .append-program .last .out)) (line (c .in-Some .program .now)) _ _ _ e (m ∙ ap (λ l. l ++ program-lines (g .E·Element .format) (g .E·Element .printed) (k + 1) (drop (k + 1) ps)) (sym p)) (c .loop-program .inv .0), omega arith)
 
 pub returns : need.returns
 returns g c =
@@ -40,5 +40,5 @@ returns g c =
     let l = count-programs (run .header .threads) (contentsOf run .bodies) (c .pre .bodies) in
     let above = thread-above (contentsOf run) k (c .in-rest .ensures tt) in
     let past : length ps ≤ k = omega arith in
-    let m = at-drop-all (program-lines (g .E·Element .width) (g .E·Element .lawful) (g .E·Element .reading) (g .E·Element .printed) k) ps k past in
+    let m = at-drop-all (program-lines (g .E·Element .format) (g .E·Element .printed) k) ps k past in
     sym (append-nil (vec-items (c .loop-program .out))) ∙ ap (λ l. vec-items (c .loop-program .out) ++ l) (sym m) ∙ c .loop-program .inv .0

@@ -9,8 +9,8 @@ use Rattle.listing.proofs.lister.append_programs.Given as given
 
 abbrev pub Inv-loop-program : given.InvT-loop-program
 Inv-loop-program g l =
-    (vec-items (l .out) ++ program-lines (g .E·Element .width) (g .E·Element .lawful) (g .E·Element .reading) (g .E·Element .printed) (l .thread) (drop (l .thread) (programs-in (l .run .header .threads) (contentsOf (l .run) .bodies)))
-    ≡ vec-items (l .entry .out) ++ program-lines (g .E·Element .width) (g .E·Element .lawful) (g .E·Element .reading) (g .E·Element .printed) 0 (programs-in (l .run .header .threads) (contentsOf (l .run) .bodies)))
+    (vec-items (l .out) ++ program-lines (g .E·Element .format) (g .E·Element .printed) (l .thread) (drop (l .thread) (programs-in (l .run .header .threads) (contentsOf (l .run) .bodies)))
+    ≡ vec-items (l .entry .out) ++ program-lines (g .E·Element .format) (g .E·Element .printed) 0 (programs-in (l .run .header .threads) (contentsOf (l .run) .bodies)))
     × (l .thread ≤ l .run .header .threads)
 
 abbrev pub μ-loop-program : given.MeasureT-loop-program

@@ -7,8 +7,8 @@ use Rattle.runfile.proofs.operation.check_program.Given as given
 
 abbrev pub Inv-loop-rest : given.InvT-loop-rest
 Inv-loop-rest g l =
-    (sound (operations (g .E·Element .width) (g .E·Element .lawful) (g .E·Element .reading) 0 (l .entry .rest) (l .entry .at))
-    ≡ sound (operations (g .E·Element .width) (g .E·Element .lawful) (g .E·Element .reading) 0 (l .rest) (l .at)))
+    (sound (operations (g .E·Element .format) 0 (l .entry .rest) (l .entry .at))
+    ≡ sound (operations (g .E·Element .format) 0 (l .rest) (l .at)))
     × (l .at + length (l .rest) ≡ l .entry .at + length (l .entry .rest))
 
 abbrev pub μ-loop-rest : given.MeasureT-loop-rest

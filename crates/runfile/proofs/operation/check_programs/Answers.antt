@@ -30,19 +30,19 @@ returns-in-Break-check-program g c =
     let p = err-from-errBy (c .from-residual .result) (c .from-residual .ensures .1) in
     let e = c .in-Break-check-program .ensures tt in
     let x = getD (c .args .programs .now) (c .loop-program .program-index) nothing in
-    let f = chain-fault (operations (g .E·Element .width) (g .E·Element .lawful) (g .E·Element .reading) 0 (now x) (c .loop-program .at)) (c .in-Break-check-program .field-0 .0) (λ _. programmed (g .E·Element .width) (g .E·Element .lawful) (g .E·Element .reading) (map (λ p. now p) (drop (c .loop-program .program-index + 1) (c .args .programs .now))) (c .loop-program .at + length (now x))) e in
-    let m = at-drop-more (λ l. programmed (g .E·Element .width) (g .E·Element .lawful) (g .E·Element .reading) (map (λ p. now p) l) (c .loop-program .at)) (c .args .programs .now) (c .loop-program .program-index) nothing (c .loop-program-test .taken) in
+    let f = chain-fault (operations (g .E·Element .format) 0 (now x) (c .loop-program .at)) (c .in-Break-check-program .field-0 .0) (λ _. programmed (g .E·Element .format) (map (λ p. now p) (drop (c .loop-program .program-index + 1) (c .args .programs .now))) (c .loop-program .at + length (now x))) e in
+    let m = at-drop-more (λ l. programmed (g .E·Element .format) (map (λ p. now p) l) (c .loop-program .at)) (c .args .programs .now) (c .loop-program .program-index) nothing (c .loop-program-test .taken) in
     record { value = rw (p .1, p .2) (sym (c .loop-program .inv .0 ∙ m ∙ f)); end = rw (p .1) tt }
 
 pub loop-program-again : need.loop-program-again
 loop-program-again g c =
     let e = c .in-Continue-check-program .ensures tt in
-    let m = at-drop-more (λ l. programmed (g .E·Element .width) (g .E·Element .lawful) (g .E·Element .reading) (map (λ p. now p) l) (c .loop-program .at)) (c .args .programs .now) (c .loop-program .program-index) nothing (c .loop-program-test .taken) in
+    let m = at-drop-more (λ l. programmed (g .E·Element .format) (map (λ p. now p) l) (c .loop-program .at)) (c .args .programs .now) (c .loop-program .program-index) nothing (c .loop-program-test .taken) in
     let n = left-more (c .args .programs .now) (c .loop-program .program-index) (c .loop-program-test .taken) in
-    (c .loop-program .inv .0 ∙ m ∙ chain-sound (operations (g .E·Element .width) (g .E·Element .lawful) (g .E·Element .reading) 0 (now (getD (c .args .programs .now) (c .loop-program .program-index) nothing)) (c .loop-program .at)) (c .in-Continue-check-program .field-0) _ e, omega (arith, c .loop-program .inv .1))
+    (c .loop-program .inv .0 ∙ m ∙ chain-sound (operations (g .E·Element .format) 0 (now (getD (c .args .programs .now) (c .loop-program .program-index) nothing)) (c .loop-program .at)) (c .in-Continue-check-program .field-0) _ e, omega (arith, c .loop-program .inv .1))
 
 pub returns : need.returns
 returns g c =
-    let m = at-drop-all (λ l. programmed (g .E·Element .width) (g .E·Element .lawful) (g .E·Element .reading) (map (λ p. now p) l) (c .loop-program .at)) (c .args .programs .now) (c .loop-program .program-index) (c .loop-program-test .left) in
+    let m = at-drop-all (λ l. programmed (g .E·Element .format) (map (λ p. now p) l) (c .loop-program .at)) (c .args .programs .now) (c .loop-program .program-index) (c .loop-program-test .left) in
     let n = at-drop-all (λ l. length (joined (λ p. now p) l)) (c .args .programs .now) (c .loop-program .program-index) (c .loop-program-test .left) in
     record { value = sym (c .loop-program .inv .0 ∙ m); end = omega (arith, c .loop-program .inv .1) }

@@ -9,6 +9,6 @@ use Rattle.runfile.proofs.operation.check_programs.Given as given
 
 abbrev pub Inv-loop-program : given.InvT-loop-program
 Inv-loop-program g l =
-    (programmed (g .E·Element .width) (g .E·Element .lawful) (g .E·Element .reading) (map (λ p. now p) (l .programs)) (l .entry .at)
-    ≡ programmed (g .E·Element .width) (g .E·Element .lawful) (g .E·Element .reading) (map (λ p. now p) (drop (l .program-index) (l .programs))) (l .at))
+    (programmed (g .E·Element .format) (map (λ p. now p) (l .programs)) (l .entry .at)
+    ≡ programmed (g .E·Element .format) (map (λ p. now p) (drop (l .program-index) (l .programs))) (l .at))
     × (l .at + length (joined (λ p. now p) (drop (l .program-index) (l .programs))) ≡ l .entry .at + length (joined (λ p. now p) (l .programs)))
