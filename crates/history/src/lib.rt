@@ -1,0 +1,3 @@
+// The record of a bench: which pushes and pops took effect, in order.
+pub mod entry;
+pub mod pushes;

@@ -1,0 +1,4 @@
+pub mod Behind
+pub mod Composing
+pub mod Unspelling
+pub mod Writing
