@@ -1,5 +1,7 @@
 // The record's law: over every run of a newly opened machine, its record is the true history.
 // Nothing is computed here: each function's contract is a theorem, and its answer is always 0.
+#![tactic(auto)]
+
 ghost use Rattle.std.specs.Prelude.{◌≡◌};
 ghost use Rattle.law.specs.Bound.{BoundIsExact};
 ghost use Rattle.law.specs.Facts.{Facts};

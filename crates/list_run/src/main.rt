@@ -1,4 +1,6 @@
 // Lists the run file on standard input.
+#![tactic(auto)]
+
 use listing::lister::list_file;
 use runfile::file::LONGEST;
 use std::io::{Read, Write};

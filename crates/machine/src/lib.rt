@@ -1,4 +1,6 @@
 // The machine over a bank of turns: its opening, begins, steps, collects and queries.
+#![tactic(auto)]
+
 mod begins;
 mod collects;
 mod opening;

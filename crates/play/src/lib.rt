@@ -1,4 +1,6 @@
 // Playing a run file's schedule on a machine.
+#![tactic(auto)]
+
 pub mod fault;
 mod moves;
 pub mod playing;

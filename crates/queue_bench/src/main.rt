@@ -1,4 +1,6 @@
 // Plays the run file on standard input and prints its report.
+#![tactic(auto)]
+
 use host::call::queue_bench_play;
 use runfile::file::LONGEST;
 use std::io::{Read, Write};

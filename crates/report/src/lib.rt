@@ -1,4 +1,6 @@
 // What the bench prints: reports, written line by line into an area that the caller owns.
+#![tactic(auto)]
+
 pub mod fault;
 pub mod line;
 mod piece;

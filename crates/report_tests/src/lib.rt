@@ -1,4 +1,6 @@
 // Tests of reports in areas of every length, and of the search for a push.
+#![tactic(auto)]
+
 #[cfg(test)]
 mod pieces;
 #[cfg(test)]

@@ -1,5 +1,7 @@
 // A user of reports, who goes through their three states. Edits of it that leave the order of the
 // states are turned down by the checker.
+#![tactic(auto)]
+
 ghost use Rattle.std.specs.Prelude.{◌≡◌, [], ◌∷◌, length};
 ghost use Rattle.runfile.specs.Elements.{number_text};
 ghost use Rattle.text.specs.Areas.{put};

@@ -1,4 +1,6 @@
 // Run files: what a run is made of, read from bytes without copying them.
+#![tactic(auto)]
+
 pub mod bodies;
 pub mod element;
 pub mod fault;

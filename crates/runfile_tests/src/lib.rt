@@ -1,4 +1,6 @@
 // Damaged run files, each with the refusal and the place that the format's description gives.
+#![tactic(auto)]
+
 #[cfg(test)]
 mod accepted;
 #[cfg(test)]

@@ -1,4 +1,6 @@
 // Bytes and decimal numbers, written whole or not at all into an area that the caller owns.
+#![tactic(auto)]
+
 pub mod holder;
 pub mod refusal;
 #[cfg(test)]

@@ -1,6 +1,7 @@
 use Rattle.std.proofs.Common.{◌≡◌, ◌∷◌, take, sym, ap, ◌∙◌, rules}
 use Rattle.std.specs.Iterator.Adapters.{take_source, take_count}
 use Rattle.std.specs.Slice.Iter.{iter_rest}
+use Rattle.history.specs.declared.entry.Kind.TheVariants.{Push}
 use Rattle.history.specs.Pushes.{first_push}
 use Rattle.history.proofs.Ahead.{ahead_more, ahead_none}
 use Rattle.history.proofs.Searching.{found_here, passed_pop, passed_other}
@@ -16,7 +17,8 @@ returns-then-entry-ticket g c =
     let to = c.next.new.self in
     let s = c.in-Some.ensures.steps in
     let m = ahead_more (iter_rest (take_source it)) (iter_rest (take_source to)) c.in-Some.entry.now (take_count it) (take_count to) s.0 s.1 in
-    let f = found_here c.in-Some.entry.now (take (take_count to) (iter_rest (take_source to))) c.args.ticket c.if-eq.ensures c.if-entry-ticket.true in
+    let k : c.in-Some.entry.now.kind ≡ Push = search rules in
+    let f = found_here c.in-Some.entry.now (take (take_count to) (iter_rest (take_source to))) c.args.ticket k c.if-entry-ticket.true in
     sym (c.loop-entry.invariant.2 ∙ (ap (λ xs. first_push xs c.args.ticket) m ∙ f))
 
 pub loop-entry-preserved : goal.loop-entry-preserved
@@ -28,7 +30,7 @@ loop-entry-preserved g c =
     let s = c.in-Some.ensures.steps in
     let m = ahead_more (iter_rest (take_source it)) (iter_rest (take_source to)) x (take_count it) (take_count to) s.0 s.1 in
     let p : first_push (x ∷ xs) c.args.ticket ≡ first_push xs c.args.ticket =
-    (elim c.else-eq.branch [ else-eq-via-then-eq+else-entry-ticket w ↦ passed_other x xs c.args.ticket w.if-entry-ticket.false | else-eq-via-else-eq w ↦ passed_pop x xs c.args.ticket w.if-eq.ensures ]) in
+    (elim c.else-eq.branch [ else-eq-via-then-eq+else-entry-ticket w ↦ passed_other x xs c.args.ticket w.if-entry-ticket.false | else-eq-via-else-eq w ↦ passed_pop x xs c.args.ticket (search rules) ]) in
     (tt, tt, c.loop-entry.invariant.2 ∙ (ap (λ ys. first_push ys c.args.ticket) m ∙ p))
 
 pub returns : goal.returns

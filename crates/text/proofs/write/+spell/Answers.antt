@@ -3,8 +3,8 @@ use Rattle.std.proofs.lemmas.Fmt.{decimal_nonempty}
 use Rattle.text.proofs.Figures.{length_one, length_step, spell_one, spell_more}
 use Rattle.text.proofs.write.+spell.Goals as goal
 
-pub overflow-sub-last : goal.overflow-sub-last
-overflow-sub-last t c = let p = decimal_nonempty c.args.n (omega arith) in omega arith
+pub overflow_sub-last : goal.overflow_sub-last
+overflow_sub-last t c = let p = decimal_nonempty c.args.n (omega arith) in omega arith
 
 pub bounds-place-last : goal.bounds-place-last
 bounds-place-last t c = let p = decimal_nonempty c.args.n (omega arith) in omega arith

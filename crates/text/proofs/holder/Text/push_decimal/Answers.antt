@@ -4,35 +4,35 @@ use Rattle.std.proofs.lemmas.Bool.{false≢true}
 use Rattle.text.proofs.Growing.{same_text, text_ok, text_err}
 use Rattle.text.proofs.holder.Text.push_decimal.Goals as goal
 
-pub invariant-of-self : goal.invariant-of-self
-invariant-of-self c =
+pub invariant_of-self : goal.invariant_of-self
+invariant_of-self c =
     let t = c.args.self.now in
-    let e = c.in-err-width.ensures in
-    let w = text_err t c.write-decimal.new.area (decimal c.args.n) _ e.answer e.after in
-    (ap length w.0 ∙ t.whole, (t.within, tt))
+    let e = c.in_err-width.ensures in
+    let w = text_err t c.write_decimal.new.area (decimal c.args.n) _ e.answer e.after in
+    record { whole = ap length w.0 ∙ t.whole; within = t.within }
 
-pub returns-in-err-width : goal.returns-in-err-width
-returns-in-err-width c =
+pub returns-in_err-width : goal.returns-in_err-width
+returns-in_err-width c =
     let t = c.args.self.now in
-    let e = c.in-err-width.ensures in
-    let p = err_from_is_err_and c.from-residual.result c.from-residual.ensures.1 in
-    let w = text_err t c.write-decimal.new.area (decimal c.args.n) _ e.answer e.after in
+    let e = c.in_err-width.ensures in
+    let p = err_from_is_err_and c.from_residual.result c.from_residual.ensures.1 in
+    let w = text_err t c.write_decimal.new.area (decimal c.args.n) _ e.answer e.after in
     record {
       answer = p.1 ∙ (ap Err p.2 ∙ w.1);
       after = w.2;
       kept = λ _. same_text _ t w.0 refl;
     }
 
-pub invariant-of-self-2 : goal.invariant-of-self-2
-invariant-of-self-2 c =
+pub invariant_of-self-2 : goal.invariant_of-self-2
+invariant_of-self-2 c =
     let t = c.args.self.now in
-    let e = c.in-ok-width.ensures in
-    let w = text_ok t c.write-decimal.new.area (decimal c.args.n) c.in-ok-width.width e.answer e.after in
-    (w.0, (w.1, tt))
+    let e = c.in_ok-width.ensures in
+    let w = text_ok t c.write_decimal.new.area (decimal c.args.n) c.in_ok-width.width e.answer e.after in
+    record { whole = w.0; within = w.1 }
 
 pub returns : goal.returns
 returns c =
     let t = c.args.self.now in
-    let e = c.in-ok-width.ensures in
-    let w = text_ok t c.write-decimal.new.area (decimal c.args.n) c.in-ok-width.width e.answer e.after in
+    let e = c.in_ok-width.ensures in
+    let w = text_ok t c.write_decimal.new.area (decimal c.args.n) c.in_ok-width.width e.answer e.after in
     record { answer = w.2; after = w.3; kept = λ h. absurd (false≢true h) }
