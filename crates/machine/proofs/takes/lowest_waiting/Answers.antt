@@ -4,11 +4,11 @@ use Rattle.world.specs.Takes.{lowest_waiting}
 use Rattle.machine.proofs.Lists.{waiting_here, waiting_more}
 use Rattle.machine.proofs.takes.lowest_waiting.Goals as goal
 
-pub returns-then-awaits-pop : goal.returns-then-awaits-pop
-returns-then-awaits-pop c = sym (c.loop-i.invariant ∙ waiting_here c.args.threads.now c.args.ticket c.loop-i.i c.loop-i-test.true (sym c.if-awaits-pop.ensures))
+pub returns-then-awaits_pop : goal.returns-then-awaits_pop
+returns-then-awaits_pop c = sym (c.loop-i.invariant ∙ waiting_here c.args.threads.now c.args.ticket c.loop-i.i c.loop-i-test.true (sym c.if-awaits_pop.ensures))
 
 pub loop-i-preserved : goal.loop-i-preserved
-loop-i-preserved c = c.loop-i.invariant ∙ waiting_more c.args.threads.now c.args.ticket c.loop-i.i c.loop-i-test.true (sym c.if-awaits-pop.ensures)
+loop-i-preserved c = c.loop-i.invariant ∙ waiting_more c.args.threads.now c.args.ticket c.loop-i.i c.loop-i-test.true (sym c.if-awaits_pop.ensures)
 
 pub returns : goal.returns
 returns c = sym (c.loop-i.invariant ∙ at_drop_all (lowest_waiting c.args.ticket c.loop-i.i) c.args.threads.now c.loop-i.i c.loop-i-test.false)

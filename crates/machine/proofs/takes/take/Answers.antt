@@ -13,7 +13,7 @@ returns-in-Push g c =
     let x = c.index-hands-thread.result in record {
       ticket = search rules;
       table = search rules;
-      entries = c.take-push.ensures.entries ∙ (sym (at_read hands i x (push_entered t i entries) entries c.requires.hand c.index-hands-thread.is) ∙ ap (λ k. record_after k t i hands entries) (sym c.in-Push.is));
+      entries = c.take_push.ensures.entries ∙ (sym (at_read hands i x (push_entered t i entries) entries c.requires.hand c.index-hands-thread.is) ∙ ap (λ k. record_after k t i hands entries) (sym c.in-Push.is));
     }
 
 pub returns-in-Pop : goal.returns-in-Pop
@@ -25,5 +25,5 @@ returns-in-Pop g c =
     let x = c.index-hands-thread.result in record {
       ticket = search rules;
       table = search rules;
-      entries = c.take-pop.ensures.entries ∙ (sym (at_read hands i x (pop_entered t i entries) entries c.requires.hand c.index-hands-thread.is) ∙ ap (λ k. record_after k t i hands entries) (sym c.in-Pop.is));
+      entries = c.take_pop.ensures.entries ∙ (sym (at_read hands i x (pop_entered t i entries) entries c.requires.hand c.index-hands-thread.is) ∙ ap (λ k. record_after k t i hands entries) (sym c.in-Pop.is));
     }

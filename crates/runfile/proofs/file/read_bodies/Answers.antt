@@ -4,19 +4,19 @@ use Rattle.runfile.specs.Tables.{parts}
 use Rattle.runfile.proofs.FileLaws.{divided_fault, divided_parts}
 use Rattle.runfile.proofs.file.read_bodies.Goals as goal
 
-pub returns-in-err-check-table : goal.returns-in-err-check-table
-returns-in-err-check-table c =
-    let p = err_from_is_err_and c.from-residual.result c.from-residual.ensures.1 in
-    let e = c.in-err-check-table.ensures in
+pub returns-in_err-check_table : goal.returns-in_err-check_table
+returns-in_err-check_table c =
+    let p = err_from_is_err_and c.from_residual.result c.from_residual.ensures.1 in
+    let e = c.in_err-check_table.ensures in
     record {
-      value = rw (p.1, p.2) (sym (divided_fault c.args.count c.args.file.now _ (omega arith) c.in-err-check-table.field-0.0 e));
+      value = rw (p.1, p.2) (sym (divided_fault c.args.count c.args.file.now _ (omega arith) c.in_err-check_table.field-0.0 e));
       long = rw p.1 tt;
     }
 
 pub returns : goal.returns
 returns c =
-    let e = c.in-ok-check-table.ensures in
+    let e = c.in_ok-check_table.ensures in
     record {
-      value = divided_parts c.args.count c.args.file.now _ (omega arith) c.cut-bodies.result _ _ refl (omega (arith, c.requires)) e c.cut-bodies.ensures.value;
-      long = c.cut-bodies.ensures.long;
+      value = divided_parts c.args.count c.args.file.now _ (omega arith) c.cut_bodies.result _ _ refl (omega (arith, c.requires)) e c.cut_bodies.ensures.value;
+      long = c.cut_bodies.ensures.long;
     }

@@ -14,26 +14,26 @@ nothing = record { ref_ptr = (0, 0); now = [] }
 left-more : (ps : List (Bor (List ℕ))) (i : ℕ) → i < length ps → length (flat_map (λ p. p.now) (drop i ps)) ≡ length (get_or ps i nothing).now + length (flat_map (λ p. p.now) (drop (i + 1) ps))
 left-more ps i h = at_drop_more (λ l. length (flat_map (λ p. p.now) l)) ps i nothing h ∙ length-append (get_or ps i nothing).now (flat_map (λ p. p.now) (drop (i + 1) ps))
 
-pub check-program-requires : goal.check-program-requires
-check-program-requires g c =
+pub check_program-requires : goal.check_program-requires
+check_program-requires g c =
     let m = left-more c.args.programs.now c.loop-program.program-index c.loop-program-test.true in
     omega (arith, c.requires, c.loop-program.invariant.1)
 
-pub returns-in-err-check-program : goal.returns-in-err-check-program
-returns-in-err-check-program g c =
-    let p = err_from_is_err_and c.from-residual.result c.from-residual.ensures.1 in
-    let e = c.in-err-check-program.ensures in
+pub returns-in_err-check_program : goal.returns-in_err-check_program
+returns-in_err-check_program g c =
+    let p = err_from_is_err_and c.from_residual.result c.from_residual.ensures.1 in
+    let e = c.in_err-check_program.ensures in
     let x = get_or c.args.programs.now c.loop-program.program-index nothing in
-    let f = chain_fault (operations g.E.Element.format 0 x.now c.loop-program.at) c.in-err-check-program.field-0.0 (λ _. programmed g.E.Element.format (map (λ p. p.now) (drop (c.loop-program.program-index + 1) c.args.programs.now)) (c.loop-program.at + length x.now)) e in
+    let f = chain_fault (operations g.E.Element.format 0 x.now c.loop-program.at) c.in_err-check_program.field-0.0 (λ _. programmed g.E.Element.format (map (λ p. p.now) (drop (c.loop-program.program-index + 1) c.args.programs.now)) (c.loop-program.at + length x.now)) e in
     let m = at_drop_more (λ l. programmed g.E.Element.format (map (λ p. p.now) l) c.loop-program.at) c.args.programs.now c.loop-program.program-index nothing c.loop-program-test.true in
     record { value = rw (p.1, p.2) (sym (c.loop-program.invariant.0 ∙ m ∙ f)); end = rw p.1 tt }
 
 pub loop-program-preserved : goal.loop-program-preserved
 loop-program-preserved g c =
-    let e = c.in-ok-check-program.ensures in
+    let e = c.in_ok-check_program.ensures in
     let m = at_drop_more (λ l. programmed g.E.Element.format (map (λ p. p.now) l) c.loop-program.at) c.args.programs.now c.loop-program.program-index nothing c.loop-program-test.true in
     let n = left-more c.args.programs.now c.loop-program.program-index c.loop-program-test.true in
-    (c.loop-program.invariant.0 ∙ m ∙ chain_sound (operations g.E.Element.format 0 (get_or c.args.programs.now c.loop-program.program-index nothing).now c.loop-program.at) c.in-ok-check-program.field-0 _ e, omega (arith, c.loop-program.invariant.1))
+    (c.loop-program.invariant.0 ∙ m ∙ chain_sound (operations g.E.Element.format 0 (get_or c.args.programs.now c.loop-program.program-index nothing).now c.loop-program.at) c.in_ok-check_program.field-0 _ e, omega (arith, c.loop-program.invariant.1))
 
 pub returns : goal.returns
 returns g c =

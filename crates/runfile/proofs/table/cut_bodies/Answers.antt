@@ -18,9 +18,9 @@ loop-entry-preserved c =
 
 pub returns : goal.returns
 returns c =
-    let s = c.in-default.ensures in
+    let s = c.in_default.ensures in
     let n = ap length s.0 in
-    let z = eqb-true (length c.loop-entry.left.now) 0 (sym c.is-empty.ensures ∙ c.if-not-is-empty.false) in
+    let z = eqb-true (length c.loop-entry.left.now) 0 (sym c.is_empty.ensures ∙ c.if-not-is_empty.false) in
     let i : length (entries c.args.table.now) ≡ c.loop-entry.index = omega (arith, n, c.loop-entry.invariant.2) in
     record {
       value = ap (λ k. Ok (take k (map (λ x. x.now) c.loop-entry.cuts))) i

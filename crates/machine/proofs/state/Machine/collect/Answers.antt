@@ -12,5 +12,5 @@ returns-in-Done g c =
       answer = collected_done t c.args.thread c.args.hands.now c.index-hands-i.result c.in-Done.kind c.in-Done.ticket within fit c.in-Done.is c.index-hands-i.is;
     }
 
-pub returns-in-default : goal.returns-in-default
-returns-in-default g c = search (rules, set-get_or)
+pub returns-in_default : goal.returns-in_default
+returns-in_default g c = search (rules, set-get_or)

@@ -8,5 +8,5 @@ returns g c =
     let fit : length c.args.cells.now ≡ c.args.shape.slots = search rules in
     record {
       answer = search rules;
-      law = rw (c.clear.ensures, c.new-table-self.ensures, c.empty-cells.ensures) (opening_law _ g.B.Bank.cycle c.args.shape c.args.cells.now long fit);
+      law = rw (c.clear.ensures, c.new_table-self.ensures, c.empty_cells.ensures) (opening_law _ g.B.Bank.cycle c.args.shape c.args.cells.now long fit);
     }

@@ -6,4 +6,4 @@ pub returns : goal.returns
 returns c =
     let s : c.args.self.now.sender < 256 = omega arith in
     let n : c.args.self.now.serial < 2 ^ 32 = omega arith in
-    letter_pieces c.args.self.now _ _ _ _ _ _ _ s n c.new-text.ensures c.push-decimal.ensures.after refl c.push-bytes.ensures.after c.push-decimal-2.ensures.after c.mark.ensures c.push-bytes-2.ensures.after
+    letter_pieces c.args.self.now _ _ _ _ _ _ _ s n c.new-text.ensures c.push_decimal.ensures.after refl c.push_bytes.ensures.after c.push_decimal-2.ensures.after c.mark.ensures c.push_bytes-2.ensures.after
