@@ -98,7 +98,9 @@ def turned(text, new, fields, seen):
     out, at = [], 0
     for m in TOKEN.finditer(text):
         name, before = m[0], text[max(0, m.start() - 1) : m.start()]
-        if name in new and (before != "." or name in fields) and not text[text.rfind("\n", 0, m.start()) + 1 : m.start()].lstrip().startswith(("--", "//")):
+        line = text[text.rfind("\n", 0, m.start()) + 1 : m.start()]
+        # neither in a comment nor in a string
+        if name in new and (before != "." or name in fields) and not line.lstrip().startswith(("--", "//")) and line.count('"') % 2 == 0:
             out += [text[at : m.start()], new[name]]
             at = m.end()
             seen[name] += 1

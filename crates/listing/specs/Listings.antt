@@ -69,7 +69,7 @@ abbrev pub contents_text : Contents → List ℕ
 contents_text c =
     head_lines c.header
     ++ (programs_text c.header.element (programs_in c.header.threads c.bodies)
-    ++ (schedule_line (codes "lead_in") (lead_in_in c.header.threads c.bodies)
+    ++ (schedule_line (codes "lead-in") (lead_in_in c.header.threads c.bodies)
     ++ schedule_line (codes "main") (main_in c.header.threads c.bodies)))
 
 -- the line of a file that is refused

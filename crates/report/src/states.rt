@@ -124,9 +124,9 @@ impl NewReport {
 impl OpenReport {
     // Writes `push K T E` or `pop K T E`.
     pub fn entry<E: Element>(&mut self, area: &mut [u8], entry: Entry<E>) -> Result<(), AreaRefusal>
-        ensures answer { result ≡ accepted self.old area.old (line_for printed entry) }
-        ensures report { self.new ≡ longer self.old area.old (line_for printed entry) }
-        ensures after { area.new ≡ left_at area.old self.old.written (line_for printed entry) }
+        ensures answer { result ≡ accepted self.old area.old (line_for E.Element.printed entry) }
+        ensures report { self.new ≡ longer self.old area.old (line_for E.Element.printed entry) }
+        ensures after { area.new ≡ left_at area.old self.old.written (line_for E.Element.printed entry) }
     {
         let text = entry.element.text();
         self.written = write_entry(

@@ -22,10 +22,10 @@ pub fn write_report<E: Element>(
     pops: Ticket,
     waiting: usize,
 ) -> Result<usize, Fault>
-    ensures answer { result ≡ reported (length area.old) (pieces_of printed shape.now (take used entries.now) pushes pops waiting) }
-    ensures after { area.new ≡ put area.old 0 (text_of (fitting (length area.old) (pieces_of printed shape.now (take used entries.now) pushes pops waiting))) }
-    ensures whole { IfOk result (λ size. (size ≡ length (report_text printed shape.now (take used entries.now) pushes pops waiting)) × (area.new ≡ put area.old 0 (report_text printed shape.now (take used entries.now) pushes pops waiting))) }
-    ensures told { Told printed }
+    ensures answer { result ≡ reported (length area.old) (pieces_of E.Element.printed shape.now (take used entries.now) pushes pops waiting) }
+    ensures after { area.new ≡ put area.old 0 (text_of (fitting (length area.old) (pieces_of E.Element.printed shape.now (take used entries.now) pushes pops waiting))) }
+    ensures whole { IfOk result (λ size. (size ≡ length (report_text E.Element.printed shape.now (take used entries.now) pushes pops waiting)) × (area.new ≡ put area.old 0 (report_text E.Element.printed shape.now (take used entries.now) pushes pops waiting))) }
+    ensures told { Told E.Element.printed }
     ensures numbers { NumbersTold }
 {
     let mut report = NewReport::new().heading(area, shape)?;

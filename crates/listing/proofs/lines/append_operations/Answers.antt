@@ -10,7 +10,7 @@ pub loop-operation-preserved : goal.loop-operation-preserved
 loop-operation-preserved g c =
     let rest = c.loop-operation.rest.now in
     let o = c.in-Ok.operation in
-    let v = c.byte-count.ensures in
+    let v = c.byte_count.ensures in
     let m = operations_of_more g.E.Element.format rest o c.in-Ok.ensures.value c.in-Ok.ensures.within in
     let n = m ∙ ap (λ w. o ∷ operations_of g.E.Element.format 0 (take (length rest - w) (drop w rest))) (sym v) in
-    next_item (vec_items c.loop-operation.out) (vec_items c.append-operation.new.out) (operation_text g.E.Element.printed o) _ _ _ c.in-ok-append-operation.ensures (ap (flat_map (operation_text g.E.Element.printed)) n) c.loop-operation.invariant
+    next_item (vec_items c.loop-operation.out) (vec_items c.append_operation.new.out) (operation_text g.E.Element.printed o) _ _ _ c.in_ok-append_operation.ensures (ap (flat_map (operation_text g.E.Element.printed)) n) c.loop-operation.invariant

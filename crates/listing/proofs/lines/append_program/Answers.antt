@@ -11,6 +11,6 @@ returns g c =
     let word = codes "program " in
     let number = decimal c.args.thread in
     let text = flat_map (operation_text g.E.Element.printed) (operations_of g.E.Element.format 0 c.args.program.now) in
-    let a = after_piece start word (word ++ number) number _ _ c.in-ok-append-bytes.ensures c.in-ok-append-decimal.ensures refl in
-    let b = after_piece start (word ++ number) ((word ++ number) ++ text) text _ _ a c.in-ok-append-operations.ensures refl in
-    last_piece c.append-bytes-2.result start ((word ++ number) ++ text) _ line_feed _ _ b (simp append_assoc) c.append-bytes-2.ensures
+    let a = after_piece start word (word ++ number) number _ _ c.in_ok-append_bytes.ensures c.in_ok-append_decimal.ensures refl in
+    let b = after_piece start (word ++ number) ((word ++ number) ++ text) text _ _ a c.in_ok-append_operations.ensures refl in
+    last_piece c.append_bytes-2.result start ((word ++ number) ++ text) _ line_feed _ _ b (simp append_assoc) c.append_bytes-2.ensures

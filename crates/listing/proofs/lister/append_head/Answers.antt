@@ -7,7 +7,7 @@ pub returns : goal.returns
 returns c =
     let start = vec_items c.args.out.now in
     let h = c.args.header.now in
-    let e = ap (kind_line (codes "element ")) c.element-word.ensures in
-    let b = ap (kind_line (codes "bank ")) c.bank-word.ensures in
-    let a = after_piece start (shape_line h.slots h.threads) (shape_line h.slots h.threads ++ kind_line (codes "element ") (element_word h.element)) _ _ _ c.in-ok-append-shape.ensures c.in-ok-append-kind.ensures (ap (λ l. shape_line h.slots h.threads ++ l) e) in
-    last_piece c.append-kind-2.result start (shape_line h.slots h.threads ++ kind_line (codes "element ") (element_word h.element)) _ _ _ _ a (rw b (append_assoc (shape_line h.slots h.threads) (kind_line (codes "element ") (element_word h.element)) (kind_line (codes "bank ") (bank_word h.bank)))) c.append-kind-2.ensures
+    let e = ap (kind_line (codes "element ")) c.element_word.ensures in
+    let b = ap (kind_line (codes "bank ")) c.bank_word.ensures in
+    let a = after_piece start (shape_line h.slots h.threads) (shape_line h.slots h.threads ++ kind_line (codes "element ") (element_word h.element)) _ _ _ c.in_ok-append_shape.ensures c.in_ok-append_kind.ensures (ap (λ l. shape_line h.slots h.threads ++ l) e) in
+    last_piece c.append_kind-2.result start (shape_line h.slots h.threads ++ kind_line (codes "element ") (element_word h.element)) _ _ _ _ a (rw b (append_assoc (shape_line h.slots h.threads) (kind_line (codes "element ") (element_word h.element)) (kind_line (codes "bank ") (bank_word h.bank)))) c.append_kind-2.ensures

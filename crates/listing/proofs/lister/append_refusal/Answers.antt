@@ -10,7 +10,7 @@ returns c =
     let word = codes "refused file " in
     let number = decimal (number_of c.args.fault.refusal) in
     let place = decimal c.args.fault.place in
-    let a = after_piece start word (word ++ number) _ _ _ c.in-ok-append-bytes.ensures c.in-ok-append-decimal.ensures (ap (λ n. word ++ decimal n) c.number.ensures) in
-    let b = after_piece start (word ++ number) _ (codes " ") _ _ a c.in-ok-append-bytes-2.ensures refl in
-    let d = after_piece start ((word ++ number) ++ codes " ") _ place _ _ b c.in-ok-append-decimal-2.ensures refl in
-    last_piece c.append-bytes-3.result start (((word ++ number) ++ codes " ") ++ place) _ line_feed _ _ d (simp append_assoc) c.append-bytes-3.ensures
+    let a = after_piece start word (word ++ number) _ _ _ c.in_ok-append_bytes.ensures c.in_ok-append_decimal.ensures (ap (λ n. word ++ decimal n) c.number.ensures) in
+    let b = after_piece start (word ++ number) _ (codes " ") _ _ a c.in_ok-append_bytes-2.ensures refl in
+    let d = after_piece start ((word ++ number) ++ codes " ") _ place _ _ b c.in_ok-append_decimal-2.ensures refl in
+    last_piece c.append_bytes-3.result start (((word ++ number) ++ codes " ") ++ place) _ line_feed _ _ d (simp append_assoc) c.append_bytes-3.ensures

@@ -6,7 +6,7 @@ use Rattle.listing.proofs.lister.append_shape.Goals as goal
 pub returns : goal.returns
 returns c =
     let start = vec_items c.args.out.now in
-    let a = after_piece start (codes "slots ") _ (decimal c.args.slots) _ _ c.in-ok-append-bytes.ensures c.in-ok-append-decimal.ensures refl in
-    let b = after_piece start (codes "slots " ++ decimal c.args.slots) _ (codes " threads ") _ _ a c.in-ok-append-bytes-2.ensures refl in
-    let d = after_piece start ((codes "slots " ++ decimal c.args.slots) ++ codes " threads ") _ (decimal c.args.threads) _ _ b c.in-ok-append-decimal-2.ensures refl in
-    last_piece c.append-bytes-3.result start (((codes "slots " ++ decimal c.args.slots) ++ codes " threads ") ++ decimal c.args.threads) _ line_feed _ _ d (simp append_assoc) c.append-bytes-3.ensures
+    let a = after_piece start (codes "slots ") _ (decimal c.args.slots) _ _ c.in_ok-append_bytes.ensures c.in_ok-append_decimal.ensures refl in
+    let b = after_piece start (codes "slots " ++ decimal c.args.slots) _ (codes " threads ") _ _ a c.in_ok-append_bytes-2.ensures refl in
+    let d = after_piece start ((codes "slots " ++ decimal c.args.slots) ++ codes " threads ") _ (decimal c.args.threads) _ _ b c.in_ok-append_decimal-2.ensures refl in
+    last_piece c.append_bytes-3.result start (((codes "slots " ++ decimal c.args.slots) ++ codes " threads ") ++ decimal c.args.threads) _ line_feed _ _ d (simp append_assoc) c.append_bytes-3.ensures

@@ -4,8 +4,8 @@ use Rattle.report.specs.Lines.{bytes_of, line_of}
 use Rattle.report.proofs.Composing.{line_front, none_fits, front_over, rest_over, rest_fits}
 use Rattle.report.proofs.line.+write_line.Goals as goal
 
-pub returns-in-default : goal.returns-in-default
-returns-in-default t c =
+pub returns-in_default : goal.returns-in_default
+returns-in_default t c =
     let n = none_fits c.args.area.now c.args.parts.now (omega (arith, ltb-true)) in
     record { answer = n.0; after = n.1 }
 
@@ -13,22 +13,22 @@ pub returns-then-area-width : goal.returns-then-area-width
 returns-then-area-width t c =
     let some : 0 < length c.args.parts.now = omega (arith, ltb-false) in
     let f = line_front c.args.parts.now _ _ some refl in
-    let o = front_over c.args.area.now (line_of (map bytes_of c.args.parts.now)) _ _ _ _ f c.part-width-width.ensures (omega arith) in
+    let o = front_over c.args.area.now (line_of (map bytes_of c.args.parts.now)) _ _ _ _ f c.part_width-width.ensures (omega arith) in
     record { answer = o.0; after = o.1 }
 
-pub returns-in-err-more : goal.returns-in-err-more
-returns-in-err-more t c =
+pub returns-in_err-more : goal.returns-in_err-more
+returns-in_err-more t c =
     let some : 0 < length c.args.parts.now = omega (arith, ltb-false) in
     let f = line_front c.args.parts.now _ _ some refl in
-    let e = c.in-err-more.ensures in
-    let r = err_from_is_err_and c.from-residual.result c.from-residual.ensures.1 in
-    let o = rest_over c.args.area.now (line_of (map bytes_of c.args.parts.now)) _ _ _ _ f c.part-width-width.ensures c.write-line.new.area _ (omega arith) refl _ e.answer e.after in
+    let e = c.in_err-more.ensures in
+    let r = err_from_is_err_and c.from_residual.result c.from_residual.ensures.1 in
+    let o = rest_over c.args.area.now (line_of (map bytes_of c.args.parts.now)) _ _ _ _ f c.part_width-width.ensures c.write_line.new.area _ (omega arith) refl _ e.answer e.after in
     record { answer = r.1 ∙ (ap Err r.2 ∙ o.0); after = o.1 }
 
 pub returns : goal.returns
 returns t c =
     let some : 0 < length c.args.parts.now = omega (arith, ltb-false) in
-    let f = line_front c.args.parts.now _ c.part-end.result some c.part-end.ensures in
-    let e = c.in-ok-more.ensures in
-    let o = rest_fits c.args.area.now (line_of (map bytes_of c.args.parts.now)) _ _ _ _ f c.part-width-width.ensures c.write-line.new.area _ (omega arith) refl c.in-ok-more.more _ c.write-part.new.area (omega arith) e.answer e.after c.write-part.ensures.after in
+    let f = line_front c.args.parts.now _ c.part_end.result some c.part_end.ensures in
+    let e = c.in_ok-more.ensures in
+    let o = rest_fits c.args.area.now (line_of (map bytes_of c.args.parts.now)) _ _ _ _ f c.part_width-width.ensures c.write_line.new.area _ (omega arith) refl c.in_ok-more.more _ c.write_part.new.area (omega arith) e.answer e.after c.write_part.ensures.after in
     record { answer = o.0; after = o.1 }

@@ -8,11 +8,11 @@ use Rattle.report.proofs.Unspelling.{told, numbers_told}
 use Rattle.report.proofs.Writing.{run, begun, not_begun, accepted_ok, accepted_err, closed_ok, closed_err, body_more, body_none, ended}
 use Rattle.report.proofs.whole.write_report.Goals as goal
 
-pub returns-in-err-report : goal.returns-in-err-report
-returns-in-err-report g c =
-    let e = c.in-err-report.ensures in
-    let r = err_from_is_err_and c.from-residual.result c.from-residual.ensures.1 in
-    let b = not_begun g.E.Element.printed c.args.shape.now (take c.args.used c.args.entries.now) c.args.pushes c.args.pops c.args.waiting c.new.result c.args.area.now c.heading.new.area c.new.ensures e.after c.in-err-report.field-0.0 e.answer in
+pub returns-in_err-report : goal.returns-in_err-report
+returns-in_err-report g c =
+    let e = c.in_err-report.ensures in
+    let r = err_from_is_err_and c.from_residual.result c.from_residual.ensures.1 in
+    let b = not_begun g.E.Element.printed c.args.shape.now (take c.args.used c.args.entries.now) c.args.pushes c.args.pops c.args.waiting c.new.result c.args.area.now c.heading.new.area c.new.ensures e.after c.in_err-report.field-0.0 e.answer in
     let o = ended g.E.Element.printed c.args.shape.now (take c.args.used c.args.entries.now) c.args.pushes c.args.pops c.args.waiting c.args.area.now c.heading.new.area _ _ (r.1 ∙ ap Err r.2) b in
     record { answer = o.0; after = o.1; whole = o.2; told = told g.E.Element.printed; numbers = numbers_told }
 
@@ -24,9 +24,9 @@ returns-in-Err g c =
     let it = c.loop-entry.entry-iterator in
     let to = c.next.new.self in
     let s = c.in-Some.ensures.steps in
-    let h = c.in-ok-report.ensures in
+    let h = c.in_ok-report.ensures in
     let e = c.in-Err.ensures in
-    let b = begun g.E.Element.printed c.args.shape.now (take c.args.used c.args.entries.now) c.args.pushes c.args.pops c.args.waiting c.new.result c.args.area.now c.heading.new.area c.new.ensures h.after c.in-ok-report.report h.answer in
+    let b = begun g.E.Element.printed c.args.shape.now (take c.args.used c.args.entries.now) c.args.pushes c.args.pops c.args.waiting c.new.result c.args.area.now c.heading.new.area c.new.ensures h.after c.in_ok-report.report h.answer in
     let m = ahead_more (iter_rest (take_source it)) (iter_rest (take_source to)) c.in-Some.entry.now (take_count it) (take_count to) s.0 s.1 in
     let n = body_more g.E.Element.printed _ _ c.in-Some.entry.now c.args.pushes c.args.pops c.args.waiting m in
     let a = accepted_err c.loop-entry.report c.entry.new.self c.loop-entry.area c.entry.new.area _ _ e.report e.after c.in-Err.refusal e.answer in
@@ -38,23 +38,23 @@ loop-entry-preserved g c =
     let it = c.loop-entry.entry-iterator in
     let to = c.next.new.self in
     let s = c.in-Some.ensures.steps in
-    let e = c.in-default.ensures in
+    let e = c.in_default.ensures in
     let m = ahead_more (iter_rest (take_source it)) (iter_rest (take_source to)) c.in-Some.entry.now (take_count it) (take_count to) s.0 s.1 in
     let n = body_more g.E.Element.printed _ _ c.in-Some.entry.now c.args.pushes c.args.pops c.args.waiting m in
     let a = accepted_ok c.loop-entry.report c.entry.new.self c.loop-entry.area c.entry.new.area _ _ e.report e.after e.answer in
     (tt, tt, c.loop-entry.invariant.2 ∙ (ap (run c.loop-entry.area c.loop-entry.report.written) n ∙ a))
 
-pub returns-in-err-closed : goal.returns-in-err-closed
-returns-in-err-closed g c =
+pub returns-in_err-closed : goal.returns-in_err-closed
+returns-in_err-closed g c =
     let it = c.loop-entry.entry-iterator in
     let s = c.in-None.ensures.steps in
-    let h = c.in-ok-report.ensures in
-    let e = c.in-err-closed.ensures in
-    let r = err_from_is_err_and c.from-residual-in-err-closed.result c.from-residual-in-err-closed.ensures.1 in
-    let b = begun g.E.Element.printed c.args.shape.now (take c.args.used c.args.entries.now) c.args.pushes c.args.pops c.args.waiting c.new.result c.args.area.now c.heading.new.area c.new.ensures h.after c.in-ok-report.report h.answer in
+    let h = c.in_ok-report.ensures in
+    let e = c.in_err-closed.ensures in
+    let r = err_from_is_err_and c.from_residual-in_err-closed.result c.from_residual-in_err-closed.ensures.1 in
+    let b = begun g.E.Element.printed c.args.shape.now (take c.args.used c.args.entries.now) c.args.pushes c.args.pops c.args.waiting c.new.result c.args.area.now c.heading.new.area c.new.ensures h.after c.in_ok-report.report h.answer in
     let m = ahead_none (iter_rest (take_source it)) (take_count it) (λ k. (s k).0) in
     let n = body_none g.E.Element.printed _ c.args.pushes c.args.pops c.args.waiting m in
-    let a = closed_err c.loop-entry.report c.loop-entry.area c.closing.new.area (closing_line c.args.pushes c.args.pops c.args.waiting) e.after c.in-err-closed.field-0.0 e.answer in
+    let a = closed_err c.loop-entry.report c.loop-entry.area c.closing.new.area (closing_line c.args.pushes c.args.pops c.args.waiting) e.after c.in_err-closed.field-0.0 e.answer in
     let o = ended g.E.Element.printed c.args.shape.now (take c.args.used c.args.entries.now) c.args.pushes c.args.pops c.args.waiting c.args.area.now c.closing.new.area _ _ (r.1 ∙ ap Err r.2) (b ∙ (c.loop-entry.invariant.2 ∙ (ap (run c.loop-entry.area c.loop-entry.report.written) n ∙ a))) in
     record { answer = o.0; after = o.1; whole = o.2; told = told g.E.Element.printed; numbers = numbers_told }
 
@@ -62,11 +62,11 @@ pub returns : goal.returns
 returns g c =
     let it = c.loop-entry.entry-iterator in
     let s = c.in-None.ensures.steps in
-    let h = c.in-ok-report.ensures in
-    let e = c.in-ok-closed.ensures in
-    let b = begun g.E.Element.printed c.args.shape.now (take c.args.used c.args.entries.now) c.args.pushes c.args.pops c.args.waiting c.new.result c.args.area.now c.heading.new.area c.new.ensures h.after c.in-ok-report.report h.answer in
+    let h = c.in_ok-report.ensures in
+    let e = c.in_ok-closed.ensures in
+    let b = begun g.E.Element.printed c.args.shape.now (take c.args.used c.args.entries.now) c.args.pushes c.args.pops c.args.waiting c.new.result c.args.area.now c.heading.new.area c.new.ensures h.after c.in_ok-report.report h.answer in
     let m = ahead_none (iter_rest (take_source it)) (take_count it) (λ k. (s k).0) in
     let n = body_none g.E.Element.printed _ c.args.pushes c.args.pops c.args.waiting m in
-    let a = closed_ok c.loop-entry.report c.loop-entry.area c.closing.new.area (closing_line c.args.pushes c.args.pops c.args.waiting) e.after c.in-ok-closed.closed e.answer in
+    let a = closed_ok c.loop-entry.report c.loop-entry.area c.closing.new.area (closing_line c.args.pushes c.args.pops c.args.waiting) e.after c.in_ok-closed.closed e.answer in
     let o = ended g.E.Element.printed c.args.shape.now (take c.args.used c.args.entries.now) c.args.pushes c.args.pops c.args.waiting c.args.area.now c.closing.new.area _ _ (ap Ok c.finish.ensures) (b ∙ (c.loop-entry.invariant.2 ∙ (ap (run c.loop-entry.area c.loop-entry.report.written) n ∙ a))) in
     record { answer = o.0; after = o.1; whole = o.2; told = told g.E.Element.printed; numbers = numbers_told }
