@@ -14,6 +14,6 @@ returns-in-Ok c =
     let tells' : told file room ≡ Ok text = ap (told file) (sym same) ∙ tells in
     let within' : c.in-Ok.length ≤ room = subst (λ n. c.in-Ok.length ≤ n) same within in
     record {
-      answer = answers file room c.in-Ok.length c.fill.new.self c.play-file.new.area text zeroes small tells' e within' h;
-      promise = promises file room c.in-Ok.length c.fill.new.self c.play-file.new.area text zeroes small tells' e within' h c.in-Ok.ensures.faithful;
+      answer = answers file room c.in-Ok.length c.fill.new.self c.play_file.new.area text zeroes small tells' e within' h;
+      promise = promises file room c.in-Ok.length c.fill.new.self c.play_file.new.area text zeroes small tells' e within' h c.in-Ok.ensures.faithful;
     }

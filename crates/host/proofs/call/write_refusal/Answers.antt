@@ -8,4 +8,4 @@ returns-in-Ok c =
     let f = c.args.fault in
     let room = length c.args.area.now in
     let small : room < 2 ^ 63 = search rules in
-    line_shown_lem f room c.fill.new.self _ (c.fill.ensures.after (λ y e. e)) (ap (λ (w : List ℕ). line_of (codes "refused" ∷ w ∷ decimal f.number ∷ decimal f.place ∷ [])) c.word.ensures) c.in-Ok.length c.write-line.new.area small c.in-Ok.ensures.answer c.in-Ok.ensures.after
+    line_shown_lem f room c.fill.new.self _ (c.fill.ensures.after (λ y e. e)) (ap (λ (w : List ℕ). line_of (codes "refused" ∷ w ∷ decimal f.number ∷ decimal f.place ∷ [])) c.word.ensures) c.in-Ok.length c.write_line.new.area small c.in-Ok.ensures.answer c.in-Ok.ensures.after

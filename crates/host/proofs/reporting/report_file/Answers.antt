@@ -16,8 +16,8 @@ returns-in-Word g c =
     let n : c.threads.result - 0 ≡ s.threads = omega (arith, c.threads.ensures) in
     let room = length c.args.area.now in
     record {
-      writes = subst (Writes c.report-run.result c.args.area.now c.report-run.new.area) (told_cut g.E.Element.format g.E.Element.printed room word_cycle run s c.args.cells.now _ c.args.hands.now _ c.args.entries.now e k (ap (λ x. take x c.args.cells.now) q) (ap (λ x. take x c.args.hands.now) n)) c.report-run.ensures.writes;
-      faithful = subst (λ (t : Shape). IfOk c.report-run.result (λ size. Faithful g.E.Element.printed (cycle_of run.header.bank) t (take size c.report-run.new.area))) e (subst (λ m. IfOk c.report-run.result (λ size. Faithful g.E.Element.printed m s (take size c.report-run.new.area))) k c.report-run.ensures.faithful);
+      writes = subst (Writes c.report_run.result c.args.area.now c.report_run.new.area) (told_cut g.E.Element.format g.E.Element.printed room word_cycle run s c.args.cells.now _ c.args.hands.now _ c.args.entries.now e k (ap (λ x. take x c.args.cells.now) q) (ap (λ x. take x c.args.hands.now) n)) c.report_run.ensures.writes;
+      faithful = subst (λ (t : Shape). IfOk c.report_run.result (λ size. Faithful g.E.Element.printed (cycle_of run.header.bank) t (take size c.report_run.new.area))) e (subst (λ m. IfOk c.report_run.result (λ size. Faithful g.E.Element.printed m s (take size c.report_run.new.area))) k c.report_run.ensures.faithful);
     }
 
 pub returns-in-Nibble : goal.returns-in-Nibble
@@ -30,6 +30,6 @@ returns-in-Nibble g c =
     let n : c.threads.result - 0 ≡ s.threads = omega (arith, c.threads.ensures) in
     let room = length c.args.area.now in
     record {
-      writes = subst (Writes c.report-run-in-Nibble.result c.args.area.now c.report-run-in-Nibble.new.area) (told_cut g.E.Element.format g.E.Element.printed room nibble_cycle run s c.args.cells.now _ c.args.hands.now _ c.args.entries.now e k (ap (λ x. take x c.args.cells.now) q) (ap (λ x. take x c.args.hands.now) n)) c.report-run-in-Nibble.ensures.writes;
-      faithful = subst (λ (t : Shape). IfOk c.report-run-in-Nibble.result (λ size. Faithful g.E.Element.printed (cycle_of run.header.bank) t (take size c.report-run-in-Nibble.new.area))) e (subst (λ m. IfOk c.report-run-in-Nibble.result (λ size. Faithful g.E.Element.printed m s (take size c.report-run-in-Nibble.new.area))) k c.report-run-in-Nibble.ensures.faithful);
+      writes = subst (Writes c.report_run-in-Nibble.result c.args.area.now c.report_run-in-Nibble.new.area) (told_cut g.E.Element.format g.E.Element.printed room nibble_cycle run s c.args.cells.now _ c.args.hands.now _ c.args.entries.now e k (ap (λ x. take x c.args.cells.now) q) (ap (λ x. take x c.args.hands.now) n)) c.report_run-in-Nibble.ensures.writes;
+      faithful = subst (λ (t : Shape). IfOk c.report_run-in-Nibble.result (λ size. Faithful g.E.Element.printed (cycle_of run.header.bank) t (take size c.report_run-in-Nibble.new.area))) e (subst (λ m. IfOk c.report_run-in-Nibble.result (λ size. Faithful g.E.Element.printed m s (take size c.report_run-in-Nibble.new.area))) k c.report_run-in-Nibble.ensures.faithful);
     }

@@ -8,8 +8,8 @@ use Rattle.host.specs.Tells.{told_end}
 use Rattle.host.proofs.Telling.{asked_text_lem, none_made, put_first, refused_writes, size_within, told_anyway, told_text}
 use Rattle.host.proofs.reporting.report_run.Goals as goal
 
-pub returns-in-err-play-run : goal.returns-in-err-play-run
-returns-in-err-play-run g c =
+pub returns-in_err-play_run : goal.returns-in_err-play_run
+returns-in_err-play_run g c =
     let form = g.E.Element.format in
     let printed = g.E.Element.printed in
     let cycle = g.B.Bank.cycle in
@@ -19,21 +19,21 @@ returns-in-err-play-run g c =
     let m = c.new-machine.result in
     let p = ran form cycle run shape (world (g.B.Bank.row m.bank) m.table c.args.cells.now c.args.hands.now c.args.entries.now) in
     let anyway = told_anyway form printed room cycle run shape (g.B.Bank.row m.bank) m.table c.args.cells.now c.args.hands.now c.args.entries.now in
-    let up = err_from_is_err_and c.from-residual.result c.from-residual.ensures.1 in
-    let refused = ap (λ q. q.0) c.in-err-play-run.ensures.answer in
+    let up = err_from_is_err_and c.from_residual.result c.from_residual.ensures.1 in
+    let refused = ap (λ q. q.0) c.in_err-play_run.ensures.answer in
     record {
-      writes = refused_writes c.from-residual.result up.0 _ _ _ up.1 (sym anyway ∙ ap (λ (r : Result (Unit {0}) RunFault). told_end printed shape room r p.1) (sym refused) ∙ ap (λ f. Err f) (sym up.2));
-      faithful = none_made _ c.from-residual.result up.0 up.1;
+      writes = refused_writes c.from_residual.result up.0 _ _ _ up.1 (sym anyway ∙ ap (λ (r : Result (Unit {0}) RunFault). told_end printed shape room r p.1) (sym refused) ∙ ap (λ f. Err f) (sym up.2));
+      faithful = none_made _ c.from_residual.result up.0 up.1;
     }
 
 pub returns : goal.returns
 returns g c =
-    let m = c.play-run.new.machine in
-    let w = world (g.B.Bank.row m.bank) m.table c.play-run.new.cells c.play-run.new.hands c.play-run.new.entries in
+    let m = c.play_run.new.machine in
+    let w = world (g.B.Bank.row m.bank) m.table c.play_run.new.cells c.play_run.new.hands c.play_run.new.entries in
     let printed = g.E.Element.printed in
     let shape = c.args.shape in
-    let played = c.in-ok-play-run.ensures in
-    let report = c.in-ok-length.ensures in
+    let played = c.in_ok-play_run.ensures in
+    let report = c.in_ok-length.ensures in
     let room = length c.args.area.now in
     let made = c.new-machine.result in
     let before = world (g.B.Bank.row made.bank) made.table c.args.cells.now c.args.hands.now c.args.entries.now in
@@ -42,9 +42,9 @@ returns g c =
     record {
       writes = (
         _,
-        sym anyway ∙ told_text printed shape w c.used.result c.pushes.result c.pops.result c.waiting.result c.used.ensures c.pushes.ensures c.pops.ensures c.waiting.ensures room p (ap (λ q. q.0) played.answer) (ap (λ q. q.1) played.answer) c.in-ok-length.length report.answer,
+        sym anyway ∙ told_text printed shape w c.used.result c.pushes.result c.pops.result c.waiting.result c.used.ensures c.pushes.ensures c.pops.ensures c.waiting.ensures room p (ap (λ q. q.0) played.answer) (ap (λ q. q.1) played.answer) c.in_ok-length.length report.answer,
         report.whole.0,
-        size_within printed shape w c.used.result c.pushes.result c.pops.result c.waiting.result c.used.ensures c.pushes.ensures c.pops.ensures c.waiting.ensures room p (ap (λ q. q.0) played.answer) (ap (λ q. q.1) played.answer) c.in-ok-length.length report.answer,
+        size_within printed shape w c.used.result c.pushes.result c.pops.result c.waiting.result c.used.ensures c.pushes.ensures c.pops.ensures c.waiting.ensures room p (ap (λ q. q.0) played.answer) (ap (λ q. q.1) played.answer) c.in_ok-length.length report.answer,
         report.whole.1,
       );
       faithful = record {
@@ -53,6 +53,6 @@ returns g c =
         entries = c.args.entries.now;
         w = w;
         reached = played.reached;
-        report = put_first c.args.area.now _ c.write-report.new.area c.in-ok-length.length report.whole.0 report.whole.1 ∙ asked_text_lem printed shape w c.used.result c.pushes.result c.pops.result c.waiting.result c.used.ensures c.pushes.ensures c.pops.ensures c.waiting.ensures;
+        report = put_first c.args.area.now _ c.write_report.new.area c.in_ok-length.length report.whole.0 report.whole.1 ∙ asked_text_lem printed shape w c.used.result c.pushes.result c.pops.result c.waiting.result c.used.ensures c.pushes.ensures c.pops.ensures c.waiting.ensures;
       };
     }

@@ -3,8 +3,8 @@ use Rattle.runfile.specs.Files.{contents_of}
 use Rattle.play.proofs.Nexts.{no_program, program_over, program_on}
 use Rattle.play.proofs.moves.next_operation.Goals as goal
 
-pub returns-in-default : goal.returns-in-default
-returns-in-default g c = record { value = no_program g.E.Element.format (contents_of c.args.run.now) c.args.thread c.args.begun c.in-default.ensures; within = tt }
+pub returns-in_default : goal.returns-in_default
+returns-in_default g c = record { value = no_program g.E.Element.format (contents_of c.args.run.now) c.args.thread c.args.begun c.in_default.ensures; within = tt }
 
 pub returns-then-begun-program : goal.returns-then-begun-program
 returns-then-begun-program g c = record {

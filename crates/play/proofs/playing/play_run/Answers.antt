@@ -9,10 +9,10 @@ returns g c =
     let form = g.E.Element.format in
     let cycle = g.B.Bank.cycle in
     let run = contents_of c.args.run.now in
-    let accepted = c.in-default.ensures.answer in
-    let plays = c.play-schedules.ensures.answer in
+    let accepted = c.in_default.ensures.answer in
+    let plays = c.play_schedules.ensures.answer in
     let all = runs form cycle run c.args.shape _ _ _ _ c.args.cells.now _ c.args.hands.now c.args.entries.now accepted _ plays in
     record {
       answer = ap (λ p. ended p) all;
-      reached = made_of c.play-schedules.result (reaches form cycle run c.args.shape _ _ _ _ c.args.cells.now _ c.args.hands.now c.args.entries.now accepted _ plays c.in-default.ensures.law);
+      reached = made_of c.play_schedules.result (reaches form cycle run c.args.shape _ _ _ _ c.args.cells.now _ c.args.hands.now c.args.entries.now accepted _ plays c.in_default.ensures.law);
     }

@@ -16,7 +16,7 @@ pub loop-index-preserved : goal.loop-index-preserved
 loop-index-preserved g c =
     let l = c.loop-index in
     let w = world (g.B.Bank.row l.machine.bank) l.machine.table l.cells l.hands l.entries in
-    (l.invariant.0 ∙ goes_on g.E.Element.format g.B.Bank.cycle (contents_of c.args.run.now) c.args.schedule.now l.index c.args.first w l.begun c.loop-index-test.true _ _ c.in-default.ensures.answer, search rules)
+    (l.invariant.0 ∙ goes_on g.E.Element.format g.B.Bank.cycle (contents_of c.args.run.now) c.args.schedule.now l.index c.args.first w l.begun c.loop-index-test.true _ _ c.in_default.ensures.answer, search rules)
 
 pub returns : goal.returns
 returns g c =
