@@ -70,23 +70,23 @@ fn bytes_at_every_length(rt: HostRuntime) -> Result<(), Fail> {
 #[test]
 fn text_to_its_limit(rt: HostRuntime) -> Result<(), Fail> {
     let mut text = Text::new();
-    assert!(rt; text.as_bytes() == b"");
+    assert!(rt; text.as_bytes() == b"".as_slice());
     text.push_decimal(255)?;
     text.push_bytes(b".")?;
     text.push_decimal(4_294_967_295)?;
     text.push_bytes(b"!")?;
-    assert!(rt; text.as_bytes() == b"255.4294967295!");
+    assert!(rt; text.as_bytes() == b"255.4294967295!".as_slice());
     assert_eq!(rt;
         text.push_decimal(123_456_789_012_345_678),
         Err(AreaRefusal::ShortArea)
     );
-    assert!(rt; text.as_bytes() == b"255.4294967295!");
+    assert!(rt; text.as_bytes() == b"255.4294967295!".as_slice());
     text.push_decimal(12_345_678_901_234_567)?;
-    assert!(rt; text.as_bytes() == b"255.4294967295!12345678901234567");
+    assert!(rt; text.as_bytes() == b"255.4294967295!12345678901234567".as_slice());
     assert_eq!(rt; text.as_bytes().len(), LIMIT);
     text.push_bytes(b"")?;
     assert_eq!(rt; text.push_bytes(b"1"), Err(AreaRefusal::ShortArea));
-    assert!(rt; text.as_bytes() == b"255.4294967295!12345678901234567");
+    assert!(rt; text.as_bytes() == b"255.4294967295!12345678901234567".as_slice());
     Ok(())
 }
 
