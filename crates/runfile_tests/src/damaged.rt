@@ -330,12 +330,13 @@ fn refused(rt: &impl Abort, base: &[u8], damage: &Damage) -> Result<(), Fail> {
     let mut buffer = [0; 64];
     let area = &mut buffer[0..64];
     apply(area, base, damage.changes);
-    assert!(rt; damage.length <= 64);
+    let name = damage.name;
+    assert!(rt; damage.length <= 64, "{name}");
     match read_run(&area[0..damage.length]) {
-        Ok(_) => Err(Fail::new("accepted")),
+        Ok(_) => Err(Fail::new(name)),
         Err(fault) => {
-            assert_eq!(rt; fault.refusal.number(), damage.number);
-            assert_eq!(rt; fault.place, damage.place);
+            assert_eq!(rt; fault.refusal.number(), damage.number, "{name}");
+            assert_eq!(rt; fault.place, damage.place, "{name}");
             Ok(())
         }
     }
@@ -344,7 +345,7 @@ fn refused(rt: &impl Abort, base: &[u8], damage: &Damage) -> Result<(), Fail> {
 #[test]
 fn damaged_files_of_numbers(rt: HostRuntime) -> Result<(), Fail> {
     for damage in &NUMBERS_DAMAGE {
-        refused(&rt, &NUMBERS, damage).note(damage.name)?;
+        refused(&rt, &NUMBERS, damage)?;
     }
     Ok(())
 }
@@ -352,7 +353,7 @@ fn damaged_files_of_numbers(rt: HostRuntime) -> Result<(), Fail> {
 #[test]
 fn damaged_files_of_letters(rt: HostRuntime) -> Result<(), Fail> {
     for damage in &LETTERS_DAMAGE {
-        refused(&rt, &LETTERS, damage).note(damage.name)?;
+        refused(&rt, &LETTERS, damage)?;
     }
     Ok(())
 }
