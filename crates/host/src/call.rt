@@ -77,8 +77,7 @@ fn write_refusal(area: &mut [u8], fault: Fault) -> i64
 
 // Reads and plays a run file, and writes its report, or the line that says why there is none, to the start
 // of the area, with zeroes behind it. Answers the text's length, or -14 where not even that line fits.
-#[unsafe(no_mangle)]
-pub extern "C" fn queue_bench_play(file: &[u8], area: &mut [u8]) -> i64
+pub fn queue_bench_play(file: &[u8], area: &mut [u8]) -> i64
     ensures answer { (result, area.new) ≡ hosted file.now (length area.old) }
     ensures promise { Promise file.now (length area.old) result area.new }
 {
