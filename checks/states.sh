@@ -1,22 +1,20 @@
 #!/bin/sh
 # The order of a report's states is kept by types, so an edit that leaves it is turned down before
 # the prover is asked, and a must-fail edit has to reach the prover. This script tries such edits:
-# each is applied to a copy of the repository, and the checker must refuse the copy in the words
-# that the edit says. Run it where the crates are proved (rt check).
+# each is applied to a copy of the crates that report_uses rests on, and the checker must refuse the
+# copy in the words that the edit says. It begins with what `rt check` has proved of them, if any.
 set -eu
 repo=$(cd "$(dirname "$0")/.." && pwd)
 copy=$(mktemp -d)
 trap 'rm -rf "$copy"' EXIT
-mkdir "$copy/target"
-cp -r "$repo/crates" "$repo/crates.txt" "$copy"
-for part in inc log rlib stamp; do
-    if [ -e "$repo/target/$part" ]; then
-        cp -r "$repo/target/$part" "$copy/target"
-    fi
+mkdir "$copy/crates"
+for crate in report_uses $(sed -n 's/^report_uses: //p' "$repo/crates.txt"); do
+    cp -r "$repo/crates/$crate" "$copy/crates"
+    grep "^$crate:" "$repo/crates.txt" >> "$copy/crates.txt"
 done
 
 # Whether the copy compiles as it is: only then does a refusal say something of the edit.
-if ! (cd "$copy" && rt mir report_uses) > "$copy/said" 2>&1; then
+if ! (cd "$copy/crates/report_uses" && rt check) > "$copy/said" 2>&1; then
     echo "the crate as it stands is refused:"
     head -5 "$copy/said"
     exit 1
@@ -42,7 +40,7 @@ for edit in "$repo"/checks/states/*.edit; do
         failed=$((failed + 1))
         continue
     }
-    if (cd "$copy" && rt mir report_uses) > "$copy/said" 2>&1; then
+    if (cd "$copy/crates/report_uses" && rt check) > "$copy/said" 2>&1; then
         echo "$name: NOT refused"
         failed=$((failed + 1))
     elif grep -qF "$says" "$copy/said"; then

@@ -1,5 +1,5 @@
 -- The shape of a file that was accepted, and buffers cut to it.
-use Rattle.std.proofs.Common.{◌≡◌, ℕ, zero, suc, ◌≤◌, List, [], ◌∷◌, take, replicate, sym, refl, ap, ◌∙◌, subst, arith}
+use Rattle.std.proofs.Common.{◌≡◌, ℕ, ◌≤◌, List, take, sym, ap, ◌∙◌, subst, arith}
 use native.Mathlib.Bridge.{le_prop}
 use Rattle.turns.specs.declared.shape.Shape.{Shape}
 use Rattle.turns.specs.Shapes.{Few}

@@ -1,5 +1,5 @@
 -- A text at the start of an area of zeroes.
-use Rattle.std.proofs.Common.{◌≡◌, ℕ, zero, suc, ◌+◌, ◌-◌, ◌^◌, ◌<◌, ◌≤◌, ltb, List, [], ◌∷◌, ◌++◌, length, take, drop, replicate, ℤ, pos, Ok, Result, sym, refl, ap, ◌∙◌, subst, arith, w64, to_z}
+use Rattle.std.proofs.Common.{◌≡◌, ℕ, zero, suc, ◌+◌, ◌-◌, ◌^◌, ◌<◌, ◌≤◌, ltb, List, ◌++◌, length, take, drop, replicate, ℤ, pos, Ok, Result, sym, ap, ◌∙◌, subst, arith, w64, to_z}
 use lib.ListN.{length-replicate}
 use mir.Facts.{to_z_pos}
 use Rattle.std.proofs.lemmas.Bool.{ltb-false}

@@ -1,5 +1,5 @@
 -- Tickets and turns, with a push's kind as 0 and a pop's as 1.
-use Rattle.std.proofs.Common.{◌≡◌, ℕ, ◌+◌, ◌-◌, ◌*◌, ◌/◌, ◌%◌, ◌<◌, ◌≤◌, sym, ◌∙◌, inl, inr, mul-le-mul_right, div-add-mod', arith}
+use Rattle.std.proofs.Common.{◌≡◌, ℕ, ◌+◌, ◌*◌, ◌/◌, ◌%◌, ◌<◌, ◌≤◌, sym, ◌∙◌, inl, inr, mul-le-mul_right, div-add-mod', arith}
 use Rattle.std.proofs.lemmas.Bool.{cases_lt}
 use lib.Arith.{digits_div, digits_mod}
 

@@ -1,6 +1,6 @@
 -- Functions changed at one place, and counting: an injection of the numbers below m that pass into those below n that
 -- pass.
-use Rattle.std.proofs.Common.{◌≡◌, ℕ, zero, suc, ◌-◌, ◌<◌, ◌≤◌, Bool, true, false, cond, eqb, ◌≢◌, sym, refl, ap, ◌∙◌, subst, inl, inr, suc-le-suc, zero-le, not-suc-le-zero, arith, eq-eqb}
+use Rattle.std.proofs.Common.{◌≡◌, ℕ, zero, suc, ◌<◌, ◌≤◌, Bool, true, false, cond, eqb, ◌≢◌, sym, refl, ap, ◌∙◌, subst, inl, inr, suc-le-suc, zero-le, not-suc-le-zero, arith, eq-eqb}
 use Rattle.std.proofs.lemmas.Bool.{cond_both, cases_eq, cases_Bool, eqb-true, eqb-false}
 
 -- f, but v at i

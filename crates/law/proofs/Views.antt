@@ -1,6 +1,6 @@
 -- A world as the proofs look at it: functions of a place in place of lists, kinds as 0 and 1, and a rank for the phase
 -- of a thread, so that conditions on phases are inequalities.
-use Rattle.std.proofs.Common.{ℕ, zero, suc, ◌+◌, ◌%◌, List, ◌++◌, get_or}
+use Rattle.std.proofs.Common.{ℕ, zero, suc, ◌%◌, List, ◌++◌, get_or}
 use Rattle.turns.specs.Rows.{next_turn}
 use Rattle.history.specs.declared.entry.Entry.{Entry}
 use Rattle.history.specs.declared.entry.Kind.{Kind}

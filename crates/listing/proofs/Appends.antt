@@ -1,5 +1,5 @@
 -- One piece after another.
-use Rattle.std.proofs.Common.{◌≡◌, ℕ, ◌+◌, ◌^◌, ◌<◌, ◌≤◌, List, [], ◌∷◌, ◌++◌, length, IfOk, Ok, Err, decimal, Result, sym, refl, ap, ◌∙◌, append_assoc, append-nil, arith}
+use Rattle.std.proofs.Common.{◌≡◌, ℕ, ◌^◌, ◌<◌, List, [], ◌++◌, IfOk, Ok, Err, decimal, Result, sym, ap, ◌∙◌, append_assoc, append-nil, arith}
 use Rattle.text.specs.Texts.{grown}
 use Rattle.text.proofs.Figures.{length_below}
 use Rattle.text.proofs.Growing.{grew_fits}

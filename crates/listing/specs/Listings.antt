@@ -1,5 +1,5 @@
 -- What the lister prints: the parts of a run file a line each, words and numbers apart by a space, every number in decimal.
-use Rattle.std.specs.Prelude.{ℕ, ◌+◌, Bool, List, [], ◌∷◌, ◌++◌, Ok, Err, codes, decimal, Result}
+use Rattle.std.specs.Prelude.{ℕ, ◌+◌, List, [], ◌∷◌, ◌++◌, Ok, Err, codes, decimal, Result}
 use Rattle.std.specs.List.{flat_map}
 use Rattle.runfile.specs.declared.fault.Fault.{Fault}
 use Rattle.runfile.specs.declared.header.Header.{Header}
@@ -11,7 +11,7 @@ use Rattle.runfile.specs.declared.operation.Operation.{Operation}
 use Rattle.runfile.specs.declared.operation.Operation.TheVariants.{Push, Pop}
 use Rattle.runfile.specs.Elements.{Format, number_format, number_text, letter_format, letter_text}
 use Rattle.runfile.specs.Faults.{number_of}
-use Rattle.runfile.specs.Files.{Contents, parsed, programs_in, lead_in_in, main_in}
+use Rattle.runfile.specs.Files.{Contents, programs_in, lead_in_in, main_in}
 use Rattle.runfile.specs.Programs.{operations_of}
 
 -- every line ends in a line feed

@@ -1,5 +1,5 @@
 -- A collect of a done thread.
-use Rattle.std.proofs.Common.{◌≡◌, ℕ, ◌<◌, List, length, get_or, Ok, Err, Result, sym, ◌∙◌, arith}
+use Rattle.std.proofs.Common.{◌≡◌, ℕ, ◌<◌, List, length, get_or, Ok, Err, Result, sym, arith}
 use Rattle.std.proofs.lemmas.Bool.{lt-leb, eq-eqb}
 use Rattle.history.specs.declared.entry.Kind.{Kind}
 use Rattle.world.specs.declared.phase.Phase.TheVariants.{Idle, Done}
@@ -7,7 +7,7 @@ use Rattle.world.specs.declared.refusal.Refusal.{Refusal}
 use Rattle.world.specs.declared.refusal.Refusal.TheVariants.{Misfit}
 use Rattle.world.specs.declared.table.Table.{Table}
 use Rattle.world.specs.Calls.{collected}
-use Rattle.world.specs.Worlds.{at, phase_at, rephased}
+use Rattle.world.specs.Worlds.{phase_at, rephased}
 use Rattle.machine.proofs.Lists.{at_read}
 
 pub collected_done : {T : Type 0} (t : Table) (i : ℕ) (hands : List T) (x : T) (kind : Kind) (ticket : ℕ) →

@@ -1,14 +1,13 @@
 -- A take that is not refused, as a step of its thread.
-use Rattle.std.proofs.Common.{◌≡◌, ℕ, ◌-◌, ◌<◌, ◌≤◌, true, false, cond, eqb, ltb, leb, List, length, get_or, set, Ok, sym, refl, ap, ◌∙◌, arith}
+use Rattle.std.proofs.Common.{◌≡◌, ℕ, ◌-◌, ◌<◌, ◌≤◌, List, length, Ok, ap, arith}
 use Rattle.std.proofs.lemmas.List.{set-get_or}
 use Rattle.std.proofs.lemmas.Bool.{lt-leb, le-leb, eq-eqb, ne_eqb, le-ltb}
 use Rattle.history.specs.declared.entry.Entry.{Entry}
 use Rattle.history.specs.declared.entry.Kind.{Kind}
-use Rattle.world.specs.declared.cell.Cell.{Cell}
 use Rattle.world.specs.declared.phase.Phase.TheVariants.{Idle, Taking}
 use Rattle.world.specs.declared.step.Step.TheVariants.{Took}
 use Rattle.world.specs.declared.table.Table.{Table}
-use Rattle.world.specs.Steps.{Outcome, acted, fitting, stepped, taken}
+use Rattle.world.specs.Steps.{stepped}
 use Rattle.world.specs.Takes.{count_of, writes_of, ticket_limit, record_after, table_after}
 use Rattle.world.specs.Worlds.{World, world, phase_at, rephased}
 

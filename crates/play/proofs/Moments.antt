@@ -1,5 +1,5 @@
 -- What playing leads to is a moment of a run of the machine's calls.
-use Rattle.std.proofs.Common.{ℕ, ◌+◌, Bool, true, false, cond, leb, List, [], ◌∷◌, get_or, Some, None, Ok, Err, Option, Result, refl, inl}
+use Rattle.std.proofs.Common.{ℕ, ◌+◌, true, false, cond, leb, List, [], ◌∷◌, get_or, Some, None, Ok, Err, Option, Result, refl, inl}
 use Rattle.runfile.specs.declared.operation.Operation.{Operation as Planned}
 use Rattle.runfile.specs.declared.operation.Operation.TheVariants.{Push, Pop}
 use Rattle.runfile.specs.Elements.{Format}
@@ -13,7 +13,7 @@ use Rattle.world.specs.Steps.{stepped}
 use Rattle.world.specs.Worlds.{World, world, phase_at}
 use Rattle.law.specs.Operations.{Operation, begin_push, begin_pop, step, collect}
 use Rattle.law.specs.Runs.{Moment, next}
-use Rattle.play.specs.Moves.{Moved, begun_with, moved, moved_in, next_operation, steps}
+use Rattle.play.specs.Moves.{Moved, begun_with, moved, moved_in, next_operation}
 use Rattle.play.specs.Plays.{Played, onward, played}
 
 module _ {T : Type 0} (form : Format T) (cycle : ℕ) (c : Contents) (start : World T) where

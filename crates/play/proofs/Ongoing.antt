@@ -1,5 +1,5 @@
 -- Playing a schedule, entry by entry.
-use Rattle.std.proofs.Common.{◌≡◌, ℕ, ◌+◌, ◌<◌, List, [], ◌∷◌, ◌++◌, length, get_or, drop, Ok, Err, sym, ap, ◌∙◌, add_assoc}
+use Rattle.std.proofs.Common.{◌≡◌, ℕ, ◌+◌, ◌<◌, List, length, get_or, drop, Ok, Err, sym, ap, ◌∙◌, add_assoc}
 use Rattle.std.proofs.lemmas.List.{at_drop_more}
 use Rattle.runfile.specs.Elements.{Format}
 use Rattle.runfile.specs.Files.{Contents}

@@ -8,7 +8,7 @@ use Rattle.world.specs.declared.refusal.Refusal.{Refusal}
 use Rattle.world.specs.declared.refusal.Refusal.TheVariants.{Misfit, ShortCycle}
 use Rattle.world.specs.declared.table.Table.{Table}
 use Rattle.world.specs.Calls.{empty_cell, new_table, new_world, opened}
-use Rattle.world.specs.Worlds.{World, world}
+use Rattle.world.specs.Worlds.{world}
 
 -- whether there is a value
 abbrev is_ok : {A B : Type 0} → Result A B → Bool

@@ -1,5 +1,5 @@
 -- A whole run: an accepted opening, and then both schedules.
-use Rattle.std.proofs.Common.{◌≡◌, ℕ, List, [], IfOk, Ok, Err, Result, sym, refl, ap, ◌∙◌, subst}
+use Rattle.std.proofs.Common.{◌≡◌, ℕ, List, [], IfOk, Ok, Err, Result, sym, ap, ◌∙◌, subst}
 use Rattle.turns.specs.declared.shape.Shape.{Shape}
 use Rattle.history.specs.declared.entry.Entry.{Entry}
 use Rattle.runfile.specs.Elements.{Format}
@@ -7,10 +7,9 @@ use Rattle.runfile.specs.Files.{Contents}
 use Rattle.world.specs.declared.cell.Cell.{Cell}
 use Rattle.world.specs.declared.table.Table.{Table}
 use Rattle.world.specs.Calls.{new_world, opened}
-use Rattle.world.specs.Worlds.{World, world}
+use Rattle.world.specs.Worlds.{world}
 use Rattle.law.specs.Laws.{Law}
 use Rattle.law.specs.Runs.{first}
-use Rattle.play.specs.declared.fault.Fault.{Fault as RunFault}
 use Rattle.play.specs.Plays.{Played, played}
 use Rattle.play.specs.Runs.{Reached, none_begun, ran, ran_from, whole_schedule}
 use Rattle.play.proofs.Moments.{Led, played_led}

@@ -5,7 +5,7 @@ use Rattle.runfile.specs.Files.{Contents}
 use Rattle.world.specs.declared.refusal.Refusal.{Refusal}
 use Rattle.world.specs.Worlds.{World}
 use Rattle.play.specs.declared.fault.Fault.{Fault as RunFault}
-use Rattle.play.specs.Moves.{Moved, moved}
+use Rattle.play.specs.Moves.{moved}
 
 -- a refusal, with the index of the schedule entry that met it
 abbrev pub refused_at : Refusal → ℕ → RunFault

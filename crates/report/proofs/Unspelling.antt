@@ -2,7 +2,7 @@
 use Rattle.std.proofs.Common.{◌≡◌, ℕ, ◌+◌, ◌%◌, ◌^◌, ◌<◌, ◌≤◌, List, [], ◌∷◌, ◌++◌, map, length, decimal, sym, refl, ap, ◌∙◌, append_assoc, arith, length-append}
 use Rattle.std.proofs.lemmas.Fmt.{decimal_by_steps, decimal_injective}
 use Rattle.std.proofs.ByRecursion.{All-append, All-weaker}
-use Rattle.std.specs.List.{flat_map, AllByRecursion as All}
+use Rattle.std.specs.List.{flat_map, AllByRecursion}
 use Rattle.history.specs.declared.entry.Entry.{Entry}
 use Rattle.history.specs.declared.entry.Kind.{Kind}
 use Rattle.history.specs.declared.entry.Kind.TheVariants.{Push, Pop}
@@ -12,7 +12,7 @@ use Rattle.report.specs.Lines.{line_of, line_for, word_of}
 use Rattle.report.specs.Reading.{Legible, seen, Told, Fitting, NumbersTold}
 
 abbrev Lacks : ℕ → List ℕ → Type 0
-Lacks s xs = All (λ byte. byte ≡ s → ⊥) xs
+Lacks s xs = AllByRecursion (λ byte. byte ≡ s → ⊥) xs
 
 -- what stands before the first s is determined, and so is what stands behind it
 split_off : (s : ℕ) (p q r t : List ℕ) → Lacks s p → Lacks s q → p ++ s ∷ r ≡ q ++ s ∷ t → (p ≡ q) × (r ≡ t)
@@ -42,9 +42,9 @@ four_split a b c d r a' b' c' d' r' ha hb hc hd ga gb gc gd e =
     (p.0, q.0, u.0, v.0, v.1)
 
 -- a number's digits are neither spaces nor line feeds
-digits_high : (n : ℕ) → n < 2 ^ 64 → All (λ byte. 48 ≤ byte) (decimal n)
+digits_high : (n : ℕ) → n < 2 ^ 64 → AllByRecursion (λ byte. 48 ≤ byte) (decimal n)
 digits_high n h =
-    decimal_by_steps (λ _ ds. All (λ byte. 48 ≤ byte) ds) (λ k l. (omega arith, tt))
+    decimal_by_steps (λ _ ds. AllByRecursion (λ byte. 48 ≤ byte) ds) (λ k l. (omega arith, tt))
     (λ k ds l i. All-append (λ byte. 48 ≤ byte) ds ((48 + k % 10) ∷ []) i (omega arith, tt)) n h
 
 digits_lack : (s n : ℕ) → s < 48 → n < 2 ^ 64 → Lacks s (decimal n)
@@ -79,7 +79,7 @@ module _ {T : Type 0} (text : T → List ℕ) where
       let m = decimal_injective x.ticket y.ticket h.1 g.1 s.2 in
       (λ i. record { kind = k i; thread = n i; ticket = m i; element = s.3 i }, s.4)
 
-  lines_tell : (xs ys : List (Entry T)) → All (Legible text) xs → All (Legible text) ys → flat_map (line_for text) xs ≡ flat_map (line_for text) ys → map (seen text) xs ≡ map (seen text) ys
+  lines_tell : (xs ys : List (Entry T)) → AllByRecursion (Legible text) xs → AllByRecursion (Legible text) ys → flat_map (line_for text) xs ≡ flat_map (line_for text) ys → map (seen text) xs ≡ map (seen text) ys
   lines_tell [] [] h g e = refl
   lines_tell [] (y ∷ ys) h g e = absurd (four_some (word_of y.kind) (decimal y.thread) (decimal y.ticket) (text y.element) (flat_map (line_for text) ys) e)
   lines_tell (x ∷ xs) [] h g e = absurd (four_some (word_of x.kind) (decimal x.thread) (decimal x.ticket) (text x.element) (flat_map (line_for text) xs) (sym e))
@@ -100,7 +100,7 @@ same_seen x y h g e =
     let v = decimal_injective x.element.value y.element.value h.2 g.2 (ap (λ z. z.element) e) in
     λ i. record { kind = (e i).kind; thread = (e i).thread; ticket = (e i).ticket; element = record { value = v i } }
 
-same_lists : (xs ys : List (Entry Number)) → All Fitting xs → All Fitting ys → map (seen number_text) xs ≡ map (seen number_text) ys → xs ≡ ys
+same_lists : (xs ys : List (Entry Number)) → AllByRecursion Fitting xs → AllByRecursion Fitting ys → map (seen number_text) xs ≡ map (seen number_text) ys → xs ≡ ys
 same_lists [] [] h g e = refl
 same_lists [] (y ∷ ys) h g e = let z : ◌≡◌ {A = ℕ} 0 1 = cc in absurd (omega arith)
 same_lists (x ∷ xs) [] h g e = let z : ◌≡◌ {A = ℕ} 0 1 = cc in absurd (omega arith)

@@ -1,5 +1,5 @@
 -- Elements' texts, piece by piece.
-use Rattle.std.proofs.Common.{◌≡◌, ℕ, ◌+◌, ◌^◌, ◌<◌, ◌≤◌, List, [], ◌∷◌, ◌++◌, length, codes, decimal, sym, refl, ap, ◌∙◌, append_assoc, arith, length-append}
+use Rattle.std.proofs.Common.{◌≡◌, ℕ, ◌+◌, ◌^◌, ◌<◌, ◌≤◌, List, [], ◌++◌, length, codes, decimal, ap, ◌∙◌, append_assoc, arith, length-append}
 use Rattle.text.specs.Texts.{grown}
 use Rattle.text.proofs.Figures.{length_below}
 use Rattle.text.proofs.Growing.{grew_fits}

@@ -1,10 +1,10 @@
 -- A file's parts, as the code cuts them.
-use Rattle.std.proofs.Common.{◌≡◌, ℕ, zero, suc, ◌+◌, ◌-◌, ◌*◌, ◌<◌, ◌≤◌, Bool, true, false, cond, List, [], ◌∷◌, ◌++◌, map, length, get_or, take, drop, Ok, Err, Result, sym, refl, ap, ◌∙◌, arith, length-drop, length-take}
+use Rattle.std.proofs.Common.{◌≡◌, ℕ, ◌+◌, ◌-◌, ◌*◌, ◌≤◌, List, length, take, drop, Ok, Err, Result, sym, refl, ap, ◌∙◌, arith, length-drop, length-take}
 use Rattle.std.specs.List.{flat_map}
 use Rattle.std.proofs.lemmas.List.{take_rest}
 use Rattle.runfile.specs.declared.bodies.Bodies.{Bodies}
 use Rattle.runfile.specs.declared.fault.Fault.{Fault}
-use Rattle.runfile.specs.Chains.{chain, sound}
+use Rattle.runfile.specs.Chains.{sound}
 use Rattle.runfile.specs.Files.{table, divided}
 use Rattle.runfile.specs.Tables.{entries, tabled, bodied, parts}
 use Rattle.runfile.proofs.ChainLaws.{chain_sound, chain_fault, chain_ok}

@@ -1,11 +1,10 @@
 -- What is accepted has the described form.
-use Rattle.std.proofs.Common.{◌≡◌, ℕ, zero, suc, ◌+◌, ◌-◌, ◌*◌, ◌<◌, ◌≤◌, Bool, true, false, cond, eqb, ltb, ◌⊎◌, List, [], ◌∷◌, ◌++◌, length, get_or, take, drop, Some, None, Ok, Err, Result, sym, refl, ap, ◌∙◌, subst, inl, inr, arith}
+use Rattle.std.proofs.Common.{◌≡◌, ℕ, zero, suc, ◌+◌, ◌-◌, ◌*◌, ◌<◌, ◌≤◌, Bool, true, false, cond, eqb, ltb, List, [], ◌∷◌, ◌++◌, length, get_or, take, drop, Some, Ok, Err, Result, sym, refl, ap, ◌∙◌, subst, inl, inr, arith}
 use Rattle.std.proofs.lemmas.List.{drop-drop, take-append-drop, length-take-le}
 use Rattle.std.proofs.lemmas.Bool.{ltb-false, ltb-true, eqb-true, eq-eqb, ne_eqb, cases_eq}
 use Rattle.std.proofs.lemmas.Bool.Decides.{nat_tests}
-use Rattle.std.specs.List.{flat_map, AllByRecursion as All}
+use Rattle.std.specs.List.{flat_map, AllByRecursion}
 use Rattle.runfile.specs.declared.fault.Fault.{Fault}
-use Rattle.runfile.specs.declared.header.Header.{Header}
 use Rattle.runfile.specs.declared.kinds.ElementKind.{ElementKind}
 use Rattle.runfile.specs.declared.kinds.ElementKind.TheVariants.{Number, Letter}
 use Rattle.runfile.specs.declared.kinds.BankKind.{BankKind}
@@ -23,13 +22,13 @@ use Rattle.runfile.specs.Kinds.{element_kind, bank_kind}
 use Rattle.runfile.specs.Programs.{operation, operations, operations_of, programmed, wide}
 use Rattle.runfile.specs.Schedules.{scheduled}
 use Rattle.runfile.specs.Tables.{entries, expected, right, tabled, bodied}
-use Rattle.runfile.proofs.ChainLaws.{chain_ok, cond_ok, cond_not_ok, ok_same, never}
+use Rattle.runfile.proofs.ChainLaws.{chain_ok, cond_ok, cond_not_ok, ok_same}
 use Rattle.runfile.proofs.FileLaws.{divided_joined}
 use Rattle.runfile.proofs.OutcomeLaws.{counted_ok, divided_count, headed_ok}
 use Rattle.runfile.proofs.PlaceLaws.{Until, parsed_until}
 use Rattle.runfile.proofs.ProgramLaws.{operations_all}
 
-pub scheduled_all : (threads : ℕ) (ts : List ℕ) (place : ℕ) (u : Unit {0}) → scheduled threads ts place ≡ Ok u → All (λ t. t < threads) ts
+pub scheduled_all : (threads : ℕ) (ts : List ℕ) (place : ℕ) (u : Unit {0}) → scheduled threads ts place ≡ Ok u → AllByRecursion (λ t. t < threads) ts
 scheduled_all threads [] place u e = tt
 scheduled_all threads (t ∷ ts) place u e =
     let o = cond_ok (ltb t threads) (scheduled threads ts (place + 1)) (body place) u e in
@@ -102,13 +101,13 @@ module _ {T : Type 0} (form : Format T) where
       let f = lawful_first b bytes place k.0 k.1 in
       f.1 (lawful_from (wide form.width k.0 - 1) bytes (place + 1) m.0 f.0 m.1)
 
-  lawful_all : (ps : List (List ℕ)) (place end : ℕ) → programmed form ps place ≡ Ok end → All (Program form) ps
+  lawful_all : (ps : List (List ℕ)) (place end : ℕ) → programmed form ps place ≡ Ok end → AllByRecursion (Program form) ps
   lawful_all [] place end e = tt
   lawful_all (p ∷ ps) place end e =
       let k = chain_ok (operations form 0 p place) (λ _. programmed form ps (place + length p)) end e in
       (lawful_from 0 p place k.0 (omega arith) k.1, lawful_all ps (place + length p) end k.2)
 
-  read_all : (ps : List (List ℕ)) (place end : ℕ) → programmed form ps place ≡ Ok end → All (λ p. (q : ℕ) → operations form 0 p q ≡ Ok (operations_of form 0 p)) ps
+  read_all : (ps : List (List ℕ)) (place end : ℕ) → programmed form ps place ≡ Ok end → AllByRecursion (λ p. (q : ℕ) → operations form 0 p q ≡ Ok (operations_of form 0 p)) ps
   read_all [] place end e = tt
   read_all (p ∷ ps) place end e =
       let k = chain_ok (operations form 0 p place) (λ _. programmed form ps (place + length p)) end e in

@@ -1,6 +1,6 @@
 -- What is known of a file once a check has passed.
-use Rattle.std.proofs.Common.{◌≡◌, ℕ, zero, suc, ◌+◌, ◌-◌, ◌*◌, ◌<◌, ◌≤◌, Bool, true, false, cond, eqb, ltb, leb, List, [], ◌∷◌, ◌++◌, length, get_or, take, drop, Some, None, Ok, Err, Option, Result, sym, refl, ap, ◌∙◌, add-zero, arith, length-append, length-drop, length-take}
-use Rattle.std.proofs.lemmas.Bool.{ltb-false, eqb-true, eqb-false, leb-true}
+use Rattle.std.proofs.Common.{◌≡◌, ℕ, suc, ◌+◌, ◌-◌, ◌*◌, ◌≤◌, true, eqb, ltb, List, [], ◌∷◌, length, get_or, take, drop, Some, None, Ok, Option, sym, refl, ap, ◌∙◌, add-zero, arith, length-append, length-drop, length-take}
+use Rattle.std.proofs.lemmas.Bool.{ltb-false, eqb-true}
 use Rattle.std.proofs.lemmas.Bool.Decides.{nat_tests}
 use Rattle.std.specs.List.{flat_map}
 use Rattle.std.specs.Option.{ok_or}
@@ -18,7 +18,7 @@ use Rattle.runfile.specs.Kinds.{element_kind, bank_kind}
 use Rattle.runfile.specs.Programs.{operations, programmed}
 use Rattle.runfile.specs.Tables.{entries, tabled, bodied}
 use Rattle.runfile.proofs.ChainLaws.{chain_ok, cond_ok, cond_not_ok, ok_same, never}
-use Rattle.runfile.proofs.TableLaws.{entries_length, bodied_joined}
+use Rattle.runfile.proofs.TableLaws.{entries_length}
 
 pub record Counted (file : List ℕ) (count : ℕ) : Type 0 where
   pub first : get_or file 0 0 ≡ count

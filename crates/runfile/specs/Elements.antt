@@ -1,5 +1,5 @@
 -- Elements in files: each kind has a width in bytes, a rule for lawful bytes, a reading and a text.
-use Rattle.std.specs.Prelude.{ℕ, ◌+◌, ◌*◌, Bool, true, false, cond, List, [], ◌∷◌, ◌++◌, length, take, Ok, Err, codes, decimal, Result, ◌==◌, nat_lt, slice_index}
+use Rattle.std.specs.Prelude.{ℕ, ◌+◌, ◌*◌, Bool, true, cond, List, [], ◌++◌, length, take, Ok, Err, codes, decimal, Result, ◌==◌, nat_lt, slice_index}
 use Rattle.runfile.specs.declared.fault.Fault.{Fault}
 use Rattle.runfile.specs.declared.number.Number.{Number}
 use Rattle.runfile.specs.declared.letter.Letter.{Letter}

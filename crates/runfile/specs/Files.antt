@@ -1,10 +1,9 @@
 -- The run file: a table of contents, then the bodies in table order. The checks stand in their order, and the first that fails wins.
-use Rattle.std.specs.Prelude.{ℕ, ◌+◌, ◌*◌, cond, List, [], ◌∷◌, length, take, drop, Some, None, Ok, Err, Option, Result, ◌==◌, nat_lt, slice_index, slice_index_or}
+use Rattle.std.specs.Prelude.{ℕ, ◌+◌, ◌*◌, cond, List, [], length, take, drop, Some, None, Ok, Err, Option, Result, ◌==◌, nat_lt, slice_index, slice_index_or}
 use Rattle.runfile.specs.declared.fault.Fault.{Fault}
 use Rattle.runfile.specs.declared.header.Header.{Header}
 use Rattle.runfile.specs.declared.kinds.ElementKind.{ElementKind}
 use Rattle.runfile.specs.declared.kinds.ElementKind.TheVariants.{Number, Letter}
-use Rattle.runfile.specs.declared.kinds.BankKind.{BankKind}
 use Rattle.runfile.specs.declared.runs.RunFile.{RunFile}
 use Rattle.runfile.specs.Chains.{chain}
 use Rattle.runfile.specs.Elements.{number_format, letter_format}

@@ -1,6 +1,6 @@
 -- What a run file is, in the words of its description: a table, then the bodies that it speaks of, and nothing left over.
-use Rattle.std.specs.Prelude.{◌≡◌, ℕ, ◌+◌, ◌<◌, ◌≤◌, Bool, true, List, [], ◌∷◌, ◌++◌, length, Ok, Result, MatchResult, slice_index_or}
-use Rattle.std.specs.List.{flat_map, AllByRecursion as All}
+use Rattle.std.specs.Prelude.{◌≡◌, ℕ, ◌+◌, ◌<◌, ◌≤◌, true, List, [], ◌∷◌, ◌++◌, length, Ok, Result, MatchResult, slice_index_or}
+use Rattle.std.specs.List.{flat_map, AllByRecursion}
 use Rattle.runfile.specs.declared.fault.Fault.{Fault}
 use Rattle.runfile.specs.declared.kinds.ElementKind.{ElementKind}
 use Rattle.runfile.specs.declared.kinds.ElementKind.TheVariants.{Number, Letter}
@@ -32,13 +32,13 @@ pub data Program {T : Type 0} (form : Format T) : List ℕ → Type 0 where
   push : {bytes rest : List ℕ} → length bytes ≡ form.width → form.lawful bytes ≡ true → Program form rest → Program form (0x50 ∷ (bytes ++ rest))
 
 abbrev pub Programs : ElementKind → List (List ℕ) → Type 0
-Programs Number ps = All (Program number_format) ps
-Programs Letter ps = All (Program letter_format) ps
+Programs Number ps = AllByRecursion (Program number_format) ps
+Programs Letter ps = AllByRecursion (Program letter_format) ps
 
 -- read one after another, the operations of each program are all of it, wherever it stands
 abbrev pub Read : ElementKind → List (List ℕ) → Type 0
-Read Number ps = All (λ p. (place : ℕ) → operations number_format 0 p place ≡ Ok (operations_of number_format 0 p)) ps
-Read Letter ps = All (λ p. (place : ℕ) → operations letter_format 0 p place ≡ Ok (operations_of letter_format 0 p)) ps
+Read Number ps = AllByRecursion (λ p. (place : ℕ) → operations number_format 0 p place ≡ Ok (operations_of number_format 0 p)) ps
+Read Letter ps = AllByRecursion (λ p. (place : ℕ) → operations letter_format 0 p place ≡ Ok (operations_of letter_format 0 p)) ps
 
 -- a file that holds these contents
 pub record Described (file : List ℕ) (c : Contents) : Type 0 where
@@ -56,8 +56,8 @@ pub record Described (file : List ℕ) (c : Contents) : Type 0 where
   pub shape : slice_index_or c.bodies 0 [] ≡ c.header.slots ∷ c.header.threads ∷ element_code c.header.element ∷ bank_code c.header.bank ∷ []
   pub programs : Programs c.header.element (programs_in c.header.threads c.bodies)
   pub operations : Read c.header.element (programs_in c.header.threads c.bodies)
-  pub lead_in : All (λ t. t < c.header.threads) (lead_in_in c.header.threads c.bodies)
-  pub main : All (λ t. t < c.header.threads) (main_in c.header.threads c.bodies)
+  pub lead_in : AllByRecursion (λ t. t < c.header.threads) (lead_in_in c.header.threads c.bodies)
+  pub main : AllByRecursion (λ t. t < c.header.threads) (main_in c.header.threads c.bodies)
 
 -- what is accepted has exactly the described form, and a refusal's place lies within the file's length
 abbrev pub Formed : List ℕ → Result Contents Fault → Type 0

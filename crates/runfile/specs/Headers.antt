@@ -1,10 +1,8 @@
 -- The shape body: slots, threads, element kind and bank kind, a byte each; the first wrong byte is the fault.
-use Rattle.std.specs.Prelude.{ℕ, ◌+◌, ◌-◌, Bool, true, false, cond, List, [], ◌∷◌, Ok, Err, Result, ◌==◌, nat_le}
+use Rattle.std.specs.Prelude.{ℕ, ◌+◌, ◌-◌, Bool, false, cond, List, [], ◌∷◌, Ok, Err, Result, ◌==◌, nat_le}
 use Rattle.std.specs.Option.{ok_or}
 use Rattle.runfile.specs.declared.fault.Fault.{Fault}
 use Rattle.runfile.specs.declared.header.Header.{Header}
-use Rattle.runfile.specs.declared.kinds.ElementKind.{ElementKind}
-use Rattle.runfile.specs.declared.kinds.BankKind.{BankKind}
 use Rattle.runfile.specs.Chains.{chain}
 use Rattle.runfile.specs.Faults.{body}
 use Rattle.runfile.specs.Kinds.{element_kind, bank_kind}

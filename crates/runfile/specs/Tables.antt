@@ -1,5 +1,5 @@
 -- The table of contents: the kinds 1, then 2 for each thread, then 3, then 4, each with its body's length.
-use Rattle.std.specs.Prelude.{ℕ, ◌+◌, ◌-◌, ◌*◌, Bool, true, false, cond, not, List, [], ◌∷◌, map, length, take, drop, Ok, Err, Result, ◌==◌, nat_lt}
+use Rattle.std.specs.Prelude.{ℕ, ◌+◌, ◌-◌, ◌*◌, Bool, true, false, cond, List, [], ◌∷◌, map, length, take, drop, Ok, Err, Result, ◌==◌, nat_lt}
 use Rattle.runfile.specs.declared.fault.Fault.{Fault}
 use Rattle.runfile.specs.declared.bodies.Bodies.{Bodies}
 use Rattle.runfile.specs.declared.table.Entry.{Entry}

@@ -1,5 +1,5 @@
 -- The step table: what a step of a thread answers and what the world is afterwards, a row for each phase.
-use Rattle.std.specs.Prelude.{ℕ, ◌+◌, ◌-◌, Bool, true, false, cond, List, length, Ok, Err, Result, ◌==◌, nat_le, nat_lt, slice_set}
+use Rattle.std.specs.Prelude.{ℕ, ◌-◌, Bool, false, cond, List, length, Ok, Err, Result, ◌==◌, nat_le, nat_lt, slice_set}
 use Rattle.turns.specs.Rows.{advanced, holding, reduced_by}
 use Rattle.turns.specs.Tickets.{slot_of, round_of, push_turn, pop_turn}
 use Rattle.history.specs.declared.entry.Kind.{Kind}
@@ -13,7 +13,6 @@ use Rattle.world.specs.declared.refusal.Refusal.{Refusal}
 use Rattle.world.specs.declared.refusal.Refusal.TheVariants.{Stranger, Misfit, NoWork, Spent, RecordFull}
 use Rattle.world.specs.declared.step.Step.{Step}
 use Rattle.world.specs.declared.step.Step.TheVariants.{Took, Waited, Passed, Stored, Read, Emptied, Completed}
-use Rattle.world.specs.declared.table.Table.{Table}
 use Rattle.world.specs.Takes.{count_of, writes_of, ticket_limit, record_after, table_after}
 use Rattle.world.specs.Worlds.{World, world, at, phase_at, rephased}
 

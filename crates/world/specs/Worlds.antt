@@ -1,5 +1,5 @@
 -- The world of a run: the bank's row, the machine's table, and the caller's cells, hands and record.
-use Rattle.std.specs.Prelude.{ℕ, zero, suc, Bool, cond, List, [], ◌∷◌, take, slice_index_or, slice_set}
+use Rattle.std.specs.Prelude.{ℕ, zero, suc, List, [], ◌∷◌, take, slice_index_or, slice_set}
 use Rattle.history.specs.declared.entry.Entry.{Entry}
 use Rattle.world.specs.declared.cell.Cell.{Cell}
 use Rattle.world.specs.declared.phase.Phase.{Phase}

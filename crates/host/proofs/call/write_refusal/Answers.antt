@@ -1,4 +1,4 @@
-use Rattle.std.proofs.Common.{◌≡◌, ℕ, ◌^◌, ◌<◌, List, [], ◌∷◌, length, codes, decimal, ap, rules}
+use Rattle.std.proofs.Common.{ℕ, ◌^◌, ◌<◌, List, [], ◌∷◌, length, codes, decimal, ap, rules}
 use Rattle.report.specs.Lines.{line_of}
 use Rattle.host.proofs.Showing.{line_shown_lem}
 use Rattle.host.proofs.call.write_refusal.Goals as goal

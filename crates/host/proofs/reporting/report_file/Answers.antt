@@ -1,4 +1,4 @@
-use Rattle.std.proofs.Common.{◌≡◌, ◌-◌, List, length, take, IfOk, sym, ap, ◌∙◌, subst, arith}
+use Rattle.std.proofs.Common.{◌≡◌, ◌-◌, length, take, IfOk, sym, ap, subst, arith}
 use Rattle.turns.specs.declared.shape.Shape.{Shape}
 use Rattle.turns.specs.Layouts.{nibble_cycle, word_cycle}
 use Rattle.runfile.specs.Files.{contents_of}

@@ -1,4 +1,4 @@
-use Rattle.std.proofs.Common.{◌≡◌, length, Err, Result, sym, ap, ◌∙◌}
+use Rattle.std.proofs.Common.{length, Err, Result, sym, ap, ◌∙◌}
 use Rattle.std.proofs.lemmas.Result.{err_from_is_err_and}
 use Rattle.runfile.specs.Files.{contents_of}
 use Rattle.world.specs.Worlds.{world}

@@ -1,4 +1,4 @@
-use Rattle.std.proofs.Common.{◌≡◌, ◌-◌, ◌∷◌, ◌++◌, length, take, drop, vec_items, sym, ap, ◌∙◌}
+use Rattle.std.proofs.Common.{◌-◌, ◌∷◌, length, take, drop, vec_items, sym, ap, ◌∙◌}
 use Rattle.std.specs.List.{flat_map}
 use Rattle.runfile.specs.Programs.{operations_of}
 use Rattle.runfile.proofs.ProgramLaws.{operations_of_more}

@@ -1,5 +1,5 @@
 use Rattle.std.proofs.Common.{◌++◌, vec_items, codes, refl, ap, ◌∙◌, append_assoc}
-use Rattle.runfile.specs.Files.{contents_of, programs_in, lead_in_in, main_in}
+use Rattle.runfile.specs.Files.{contents_of, programs_in, lead_in_in}
 use Rattle.listing.specs.Listings.{head_lines, programs_text, schedule_line}
 use Rattle.listing.proofs.Appends.{after_piece, last_piece}
 use Rattle.listing.proofs.lister.append_contents.Goals as goal

@@ -1,4 +1,4 @@
-use Rattle.std.proofs.Common.{◌++◌, vec_items, codes, refl, ap, append_assoc}
+use Rattle.std.proofs.Common.{◌++◌, vec_items, codes, ap, append_assoc}
 use Rattle.listing.specs.Listings.{shape_line, kind_line, element_word, bank_word}
 use Rattle.listing.proofs.Appends.{after_piece, last_piece}
 use Rattle.listing.proofs.lister.append_head.Goals as goal

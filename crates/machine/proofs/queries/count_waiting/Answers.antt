@@ -1,4 +1,4 @@
-use Rattle.std.proofs.Common.{◌≡◌, ◌+◌, ◌≤◌, sym, arith}
+use Rattle.std.proofs.Common.{sym, arith}
 use Rattle.std.proofs.lemmas.List.{at_drop_all}
 use Rattle.world.specs.Queries.{count_waiting}
 use Rattle.machine.proofs.Lists.{count_here, count_past}

@@ -1,4 +1,4 @@
-use Rattle.std.proofs.Common.{◌≡◌, sym, ◌∙◌}
+use Rattle.std.proofs.Common.{sym, ◌∙◌}
 use Rattle.std.proofs.lemmas.List.{at_drop_all}
 use Rattle.world.specs.Takes.{lowest_waiting}
 use Rattle.machine.proofs.Lists.{waiting_here, waiting_more}

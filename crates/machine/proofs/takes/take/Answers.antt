@@ -1,5 +1,4 @@
 use Rattle.std.proofs.Common.{sym, ap, ◌∙◌, rules}
-use Rattle.history.specs.declared.entry.Kind.TheVariants.{Push, Pop}
 use Rattle.world.specs.Takes.{pop_entered, push_entered, record_after}
 use Rattle.machine.proofs.Lists.{at_read}
 use Rattle.machine.proofs.takes.take.Goals as goal

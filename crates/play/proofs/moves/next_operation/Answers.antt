@@ -1,4 +1,4 @@
-use Rattle.std.proofs.Common.{ℕ, ◌+◌, ◌<◌, List, arith, rules}
+use Rattle.std.proofs.Common.{rules}
 use Rattle.runfile.specs.Files.{contents_of}
 use Rattle.play.proofs.Nexts.{no_program, program_over, program_on}
 use Rattle.play.proofs.moves.next_operation.Goals as goal

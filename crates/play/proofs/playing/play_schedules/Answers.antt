@@ -1,4 +1,4 @@
-use Rattle.std.proofs.Common.{◌≡◌, ℕ, List, length, Err, refl, ap, ◌∙◌}
+use Rattle.std.proofs.Common.{◌≡◌, length, Err, refl, ap, ◌∙◌}
 use Rattle.std.proofs.lemmas.Result.{err_from_is_err_and}
 use Rattle.runfile.specs.Files.{contents_of, lead_in_in, main_in}
 use Rattle.world.specs.Worlds.{world}

@@ -1,6 +1,5 @@
-use Rattle.std.proofs.Common.{◌≡◌, sym, refl, ap, ◌∙◌, arith}
+use Rattle.std.proofs.Common.{sym, refl, arith}
 use Rattle.std.proofs.lemmas.Result.{err_from_is_err_and}
-use Rattle.runfile.specs.Tables.{parts}
 use Rattle.runfile.proofs.FileLaws.{divided_fault, divided_parts}
 use Rattle.runfile.proofs.file.read_bodies.Goals as goal
 

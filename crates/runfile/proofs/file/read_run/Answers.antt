@@ -1,4 +1,4 @@
-use Rattle.std.proofs.Common.{◌≡◌, ◌+◌, ◌*◌, length, Ok, Result, sym, ap, ◌∙◌, arith, length-drop, rules}
+use Rattle.std.proofs.Common.{◌≡◌, ◌+◌, ◌*◌, length, Ok, Result, sym, ap, arith, length-drop, rules}
 use Rattle.runfile.specs.declared.fault.Fault.{Fault}
 use Rattle.runfile.specs.Files.{Contents, contents_of, outcome, parsed}
 use Rattle.runfile.specs.Tables.{cut_of}

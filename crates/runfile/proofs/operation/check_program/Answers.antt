@@ -1,7 +1,6 @@
-use Rattle.std.proofs.Common.{◌≡◌, ◌<◌, ◌≤◌, length, sym, ap, ◌∙◌, arith, length-drop, length-take}
+use Rattle.std.proofs.Common.{◌<◌, ◌≤◌, length, sym, ap, ◌∙◌, arith, length-drop, length-take}
 use Rattle.std.proofs.lemmas.Bool.{eqb-true}
 use Rattle.runfile.specs.Chains.{sound}
-use Rattle.runfile.specs.Programs.{operations}
 use Rattle.runfile.proofs.ProgramLaws.{sound_more, operations_none, wide_some}
 use Rattle.runfile.proofs.operation.check_program.Goals as goal
 

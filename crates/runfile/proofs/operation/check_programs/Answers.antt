@@ -1,8 +1,7 @@
-use Rattle.std.proofs.Common.{◌≡◌, ℕ, ◌+◌, ◌<◌, List, [], map, length, get_or, drop, sym, ap, ◌∙◌, arith, length-append, Bor, rules}
+use Rattle.std.proofs.Common.{◌≡◌, ℕ, ◌+◌, ◌<◌, List, [], map, length, get_or, drop, sym, ◌∙◌, arith, length-append, Bor}
 use Rattle.std.specs.List.{flat_map}
 use Rattle.std.proofs.lemmas.List.{at_drop_more, at_drop_all}
 use Rattle.std.proofs.lemmas.Result.{err_from_is_err_and}
-use Rattle.runfile.specs.Chains.{sound}
 use Rattle.runfile.specs.Programs.{operations, programmed}
 use Rattle.runfile.proofs.ChainLaws.{chain_sound, chain_fault}
 use Rattle.runfile.proofs.operation.check_programs.Goals as goal

@@ -1,4 +1,4 @@
-use Rattle.std.proofs.Common.{◌≡◌, ◌+◌, ◌<◌, map, length, take, Ok, sym, refl, ap, ◌∙◌, arith, length-drop, length-set, length-take}
+use Rattle.std.proofs.Common.{◌≡◌, ◌<◌, map, length, take, Ok, sym, refl, ap, ◌∙◌, arith, length-drop, length-set, length-take}
 use Rattle.std.proofs.lemmas.Bool.{eqb-true}
 use Rattle.runfile.specs.Tables.{entries}
 use Rattle.runfile.proofs.TableLaws.{bodied_more, bodied_end}

@@ -1,4 +1,4 @@
-use Rattle.std.proofs.Common.{◌≡◌, ◌≤◌, length, sym, ◌∙◌, arith, length-drop, length-take, rules, ltb-false}
+use Rattle.std.proofs.Common.{◌≤◌, length, sym, ◌∙◌, arith, length-drop, length-take, ltb-false}
 use Rattle.runfile.proofs.TableLaws.{entries_split}
 use Rattle.runfile.proofs.table.split_entry.Goals as goal
 

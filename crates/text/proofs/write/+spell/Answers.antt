@@ -1,6 +1,6 @@
 use Rattle.std.proofs.Common.{refl, arith, rules}
 use Rattle.std.proofs.lemmas.Fmt.{decimal_nonempty}
-use Rattle.text.proofs.Figures.{length_one, length_step, spell_one, spell_more}
+use Rattle.text.proofs.Figures.{length_step, spell_one, spell_more}
 use Rattle.text.proofs.write.+spell.Goals as goal
 
 pub overflow_sub-last : goal.overflow_sub-last

@@ -1,4 +1,4 @@
-use Rattle.std.proofs.Common.{◌≡◌, ◌≤◌, [], map, length, sym, arith}
+use Rattle.std.proofs.Common.{◌≤◌, [], map, length, sym}
 use Rattle.std.proofs.lemmas.List.{get_or-map, get_or_past, length-map}
 use Rattle.runfile.proofs.CutLaws.{nothing}
 use Rattle.runfile.proofs.runs.RunFile.body.Goals as goal

@@ -1,4 +1,4 @@
-use Rattle.std.proofs.Common.{Some, sym, ap, ◌∙◌, arith}
+use Rattle.std.proofs.Common.{Some, ap, arith}
 use Rattle.std.proofs.lemmas.Bool.{lt-ltb}
 use Rattle.runfile.proofs.CutLaws.{cut_body}
 use Rattle.runfile.proofs.runs.RunFile.program.Goals as goal
