@@ -3,7 +3,7 @@ ghost use Rattle.std.specs.Prelude.{◌≡◌, ◌+◌, ◌*◌, ◌/◌, ◌%�
 ghost use Rattle.turns.specs.Layouts.{nibble_cycle, nibble_turns};
 ghost use Rattle.turns.specs.Rows.{cleared};
 ghost use Rattle.turns.specs.Nibbles.{nibble_row};
-ghost use Rattle.std.proofs.Common.{rules, arith};
+ghost use Rattle.std.proofs.Common.{rules};
 
 use super::bank::{Bank, SLOTS};
 use super::ticket::Turn;
@@ -49,9 +49,9 @@ impl Bank for NibbleBank {
 
     ghost row = { λ bank. nibble_turns bank.bytes };
 
-    ghost least = { first_of (Prim.search rules, Prim.grind (arith, Self.row.coded.inj)) };
+    ghost least = { Prim.search rules };
 
-    ghost most = { first_of (Prim.search rules, Prim.grind (arith, Self.row.coded.inj)) };
+    ghost most = { Prim.search rules };
 
     ghost lawful = { λ bank. nibble_row bank.bytes bank.long };
 

@@ -3,7 +3,7 @@ ghost use Rattle.std.specs.Prelude.{◌≡◌, ℕ, ◌%◌, ◌<◌, length, sl
 ghost use Rattle.turns.specs.Layouts.{word_cycle, word_turns};
 ghost use Rattle.turns.specs.Rows.{cleared};
 ghost use Rattle.turns.specs.Words.{word_row};
-ghost use Rattle.std.proofs.Common.{rules, arith};
+ghost use Rattle.std.proofs.Common.{rules};
 
 use super::bank::{Bank, SLOTS};
 use super::ticket::Turn;
@@ -36,9 +36,9 @@ impl Bank for WordBank {
 
     ghost row = { λ bank. word_turns bank.words };
 
-    ghost least = { first_of (Prim.search rules, Prim.grind (arith, Self.row.coded.inj)) };
+    ghost least = { Prim.search rules };
 
-    ghost most = { first_of (Prim.search rules, Prim.grind (arith, Self.row.coded.inj)) };
+    ghost most = { Prim.search rules };
 
     ghost lawful = { λ bank. word_row bank.words bank.long };
 
