@@ -15,7 +15,7 @@ pub trait Element: Copy {
 
     ghost printed: { Self → List ℕ };
 
-    // The constant, which no clause can name.
+    // The constant by a call, whose clause ties it to the format.
     fn byte_count() -> usize
         ensures { result ≡ format.width };
 

@@ -1,8 +1,8 @@
 pub mod Advances
 pub mod Layouts
+pub mod Nibbles
 pub mod Refusals
 pub mod Rows
 pub mod Shapes
 pub mod Tickets
-pub mod Nibbles
 pub mod Words

@@ -19,7 +19,7 @@ pub trait Bank {
 
     ghost row: { Self → List ℕ };
 
-    // `CYCLE`, by a call: a constant carries no clause, so generic code knows its value only here.
+    // `CYCLE`, by a call, whose clause ties it to `cycle`: generic code takes it from here.
     fn cycle_length() -> u32
         ensures { result ≡ cycle };
 

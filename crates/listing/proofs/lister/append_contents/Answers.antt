@@ -11,8 +11,7 @@ returns c =
     let head = head_lines run.header in
     let programs = programs_text run.header.element (programs_in run.header.threads (contents_of run).bodies) in
     let lead_in = schedule_line (codes "lead-in") (lead_in_in run.header.threads (contents_of run).bodies) in
-    let l = ap (schedule_line (codes "lead-in")) c.lead_in.ensures in
     let m = ap (schedule_line (codes "main")) c.main.ensures in
     let a = after_piece start head (head ++ programs) programs _ _ c.in_ok-append_head.ensures c.in_ok-append_kind_of_programs.ensures refl in
-    let b = after_piece start (head ++ programs) ((head ++ programs) ++ lead_in) _ _ _ a c.in_ok-append_schedule.ensures (ap (λ t. (head ++ programs) ++ t) l) in
+    let b = after_piece start (head ++ programs) ((head ++ programs) ++ lead_in) _ _ _ a c.in_ok-append_schedule.ensures (cc) in
     last_piece c.append_schedule-2.result start ((head ++ programs) ++ lead_in) _ _ _ _ b (ap (λ t. ((head ++ programs) ++ lead_in) ++ t) m ∙ simp append_assoc) c.append_schedule-2.ensures
