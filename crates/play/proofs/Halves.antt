@@ -2,11 +2,11 @@
 use Rattle.std.proofs.Common.{◌≡◌, ℕ, ◌+◌, ◌-◌, ◌<◌, ◌≤◌, List, [], ◌∷◌, ◌++◌, length, Ok, Err, Result, sym, refl, ap, ◌∙◌, add-zero, arith}
 use Rattle.std.proofs.lemmas.List.{drop_all, append-nil}
 use Rattle.std.proofs.lemmas.Bool.{lt-ltb, le-ltb}
+use Rattle.faults.specs.declared.fault.Fault.{Fault}
 use Rattle.runfile.specs.Elements.{Format}
 use Rattle.runfile.specs.Files.{Contents}
 use Rattle.world.specs.declared.refusal.Refusal.{Refusal}
 use Rattle.world.specs.Worlds.{World}
-use Rattle.play.specs.declared.fault.Fault.{Fault as RunFault}
 use Rattle.play.specs.Moves.{moved}
 use Rattle.play.specs.Plays.{Played, onward, played}
 use Rattle.play.specs.Schedules.{still_to_run}
@@ -22,7 +22,7 @@ halves (x ∷ xs) main =
 
 module _ {T : Type 0} (form : Format T) (cycle : ℕ) (c : Contents) where
   -- a fault ends the run; otherwise the rest is played
-  abbrev next : Result (Unit {0}) RunFault → World T → List ℕ → List ℕ → ℕ → Played T
+  abbrev next : Result (Unit {0}) (Fault Refusal) → World T → List ℕ → List ℕ → ℕ → Played T
   next (Ok u) w begun is place = played form cycle c w begun is place
   next (Err f) w begun is place = (Err f, w, begun)
 
@@ -50,8 +50,8 @@ module _ {T : Type 0} (form : Format T) (cycle : ℕ) (c : Contents) where
     all_of_it : further (played form cycle c w begun first 0) rest (length first) ≡ played form cycle c w begun (lead_in ++ main) 0
     all_of_it = let e : length first ≡ 0 + length first = omega arith in ap (further (played form cycle c w begun first 0) rest) e ∙ sym (played_append first rest w begun 0) ∙ ap (λ is. played form cycle c w begun is 0) both
 
-    pub ended_in_first : (r : Result (Unit {0}) RunFault) (f : RunFault) (w' : World T) (begun' : List ℕ) → r ≡ Err f → (Err f, w', begun') ≡ played form cycle c w begun first 0 → (r, w', begun') ≡ played form cycle c w begun (lead_in ++ main) 0
-    ended_in_first r f w' begun' z e = ap (λ (x : Result (Unit {0}) RunFault). (x, w', begun')) z ∙ ap (λ p. further p rest (length first)) e ∙ all_of_it
+    pub ended_in_first : (r : Result (Unit {0}) (Fault Refusal)) (f : Fault Refusal) (w' : World T) (begun' : List ℕ) → r ≡ Err f → (Err f, w', begun') ≡ played form cycle c w begun first 0 → (r, w', begun') ≡ played form cycle c w begun (lead_in ++ main) 0
+    ended_in_first r f w' begun' z e = ap (λ (x : Result (Unit {0}) (Fault Refusal)). (x, w', begun')) z ∙ ap (λ p. further p rest (length first)) e ∙ all_of_it
 
     pub went_on : (w' : World T) (begun' : List ℕ) (q : Played T) → (Ok tt, w', begun') ≡ played form cycle c w begun first 0 → q ≡ played form cycle c w' begun' rest (length first) → q ≡ played form cycle c w begun (lead_in ++ main) 0
     went_on w' begun' q e h = h ∙ ap (λ p. further p rest (length first)) e ∙ all_of_it

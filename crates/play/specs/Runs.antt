@@ -1,5 +1,6 @@
 -- A whole run: the opening, then every entry of both schedules.
 use Rattle.std.specs.Prelude.{ℕ, List, ◌++◌, replicate, Ok, Err, Result}
+use Rattle.faults.specs.declared.fault.Fault.{Fault}
 use Rattle.turns.specs.declared.shape.Shape.{Shape}
 use Rattle.history.specs.declared.entry.Entry.{Entry}
 use Rattle.runfile.specs.Elements.{Format}
@@ -12,7 +13,6 @@ use Rattle.world.specs.Worlds.{World, world}
 use Rattle.law.specs.Laws.{Truth}
 use Rattle.law.specs.Operations.{Operation}
 use Rattle.law.specs.Runs.{Moment}
-use Rattle.play.specs.declared.fault.Fault.{Fault}
 use Rattle.play.specs.Plays.{Played, played, refused_at}
 
 -- the lead-in's entries come first, then the main schedule's
@@ -37,7 +37,7 @@ abbrev pub ran : {T : Type 0} → Format T → ℕ → Contents → Shape → Wo
 ran form cycle c shape w = ran_from form cycle c w.hands w.entries (opened cycle w.row w.table w.cells shape)
 
 -- a run's answer, and the world at its end
-abbrev pub ended : {T : Type 0} → Played T → Result (Unit {0}) Fault × World T
+abbrev pub ended : {T : Type 0} → Played T → Result (Unit {0}) (Fault Refusal) × World T
 ended p = (p.0, p.1)
 
 -- a run of calls leads from one world to the other, and there the record's whole law is true of it

@@ -2,8 +2,4 @@
 use world::refusal::Refusal;
 
 // A refused call of the machine, with the index of the schedule entry that made it; the opening's is 0.
-#[derive(Clone, Copy)]
-pub struct Fault {
-    pub refusal: Refusal,
-    pub place: usize,
-}
+pub type Fault = faults::fault::Fault<Refusal>;

@@ -36,16 +36,8 @@ fn next_operation<E: Element>(run: &RunFile, thread: usize, begun: usize) -> Opt
     ensures value { result ≡ next_operation E.Element.format (contents_of run.now) thread begun }
     ensures within { IfSome result (λ o. begun + wide E.Element.format.width o < 2 ^ 64) }
 {
-    let Some(program) = run.program(thread) else {
-        return None;
-    };
-    if begun >= program.len() {
-        return None;
-    }
-    match read_operation::<E>(&program[begun..], 0) {
-        Ok(operation) => Some(operation),
-        Err(_) => None,
-    }
+    let rest = run.program(thread)?.get(begun..)?;
+    read_operation(rest, 0).ok()
 }
 
 // An idle thread begins its next operation; where none is left it rests. `begun` has how many bytes

@@ -9,6 +9,7 @@ ghost use Rattle.play.specs.Runs.{Reached, ended, ran, whole_schedule};
 use super::fault::Fault;
 use super::moves::move_thread;
 use super::schedule::Schedule;
+use faults::numbered::Numbered;
 use history::entry::Entry;
 use machine::state::Machine;
 use runfile::element::Element;
@@ -33,10 +34,8 @@ fn play_schedule<B: Bank, E: Element>(
     ensures answer { (result, world (B.Bank.row machine.new.bank) machine.new.table cells.new hands.new entries.new, begun.new) ≡ played E.Element.format B.Bank.cycle (contents_of run.now) (world (B.Bank.row machine.old.bank) machine.old.table cells.old hands.old entries.old) begun.old schedule.now first }
 {
     for (index, thread) in schedule.iter().enumerate() {
-        if let Err(refusal) = move_thread(machine, run, begun, *thread, cells, hands, entries) {
-            let place = first + index;
-            return Err(Fault { refusal, place });
-        }
+        let place = first + index;
+        move_thread(machine, run, begun, *thread, cells, hands, entries).map_err(|refusal| refusal.at(place))?;
     }
     Ok(())
 }
@@ -77,9 +76,7 @@ pub fn play_run<B: Bank, E: Element>(
     ensures answer { (result, world (B.Bank.row machine.new.bank) machine.new.table cells.new hands.new entries.new) ≡ ended (ran E.Element.format B.Bank.cycle (contents_of run.now) shape (world (B.Bank.row machine.old.bank) machine.old.table cells.old hands.old entries.old)) }
     ensures reached { OnOk result (Reached B.Bank.cycle (new_world shape cells.old hands.old entries.old) (world (B.Bank.row machine.new.bank) machine.new.table cells.new hands.new entries.new)) }
 {
-    if let Err(refusal) = machine.open(shape, cells) {
-        return Err(Fault { refusal, place: 0 });
-    }
+    machine.open(shape, cells).map_err(|refusal| refusal.at(0))?;
     let mut begun = [0; SLOTS];
     play_schedules(machine, run, &mut begun, cells, hands, entries)
 }

@@ -16,13 +16,10 @@ impl<'a> Schedule<'a> {
         ensures { result.now ≡ still_to_run self.now.lead_in.now self.now.main.now taken }
     {
         if taken < self.lead_in.len() {
-            return &self.lead_in[taken..];
-        }
-        let past = taken - self.lead_in.len();
-        if past < self.main.len() {
-            &self.main[past..]
+            &self.lead_in[taken..]
         } else {
-            b""
+            let past = taken - self.lead_in.len();
+            self.main.get(past..).unwrap_or_default()
         }
     }
 }
