@@ -4,11 +4,12 @@ use Rattle.std.proofs.lemmas.List.{drop_all, append-nil}
 use Rattle.std.proofs.lemmas.Bool.{lt-ltb, le-ltb}
 use Rattle.faults.specs.declared.fault.Fault.{Fault}
 use Rattle.runfile.specs.Elements.{Format}
-use Rattle.runfile.specs.Files.{Contents}
+use Rattle.runfile.specs.Files.{Contents, lead_in_in, main_in}
 use Rattle.world.specs.declared.refusal.Refusal.{Refusal}
 use Rattle.world.specs.Worlds.{World}
 use Rattle.play.specs.Moves.{moved}
 use Rattle.play.specs.Plays.{Played, onward, played}
+use Rattle.play.specs.Runs.{whole_schedule}
 use Rattle.play.specs.Schedules.{still_to_run}
 
 -- what is still to run at first, and then after that, is all there is
@@ -43,15 +44,15 @@ module _ {T : Type 0} (form : Format T) (cycle : ℕ) (c : Contents) where
       one_more m.0 m.1 m.2 ys place _ _ (place + length (x ∷ xs)) (played_append xs ys m.1 m.2 (place + 1) ∙ ap (further (played form cycle c m.1 m.2 xs (place + 1)) ys) e)
 
   -- the two schedules of a run, played one after the other
-  module _ (lead_in main first rest : List ℕ) (at_first : first ≡ still_to_run lead_in main 0) (at_last : rest ≡ still_to_run lead_in main (length first)) (w : World T) (begun : List ℕ) where
-    both : first ++ rest ≡ lead_in ++ main
-    both = ap (λ xs. first ++ xs) at_last ∙ ap (λ xs. xs ++ still_to_run lead_in main (length xs)) at_first ∙ halves lead_in main
+  module _ (w : World T) (begun first rest : List ℕ) (at_first : first ≡ still_to_run (lead_in_in c.header.threads c.bodies) (main_in c.header.threads c.bodies) 0) (at_rest : rest ≡ still_to_run (lead_in_in c.header.threads c.bodies) (main_in c.header.threads c.bodies) (length first)) where
+    all_of_it : first ++ rest ≡ whole_schedule c
+    all_of_it = rw (at_rest, at_first) (halves (lead_in_in c.header.threads c.bodies) (main_in c.header.threads c.bodies))
 
-    all_of_it : further (played form cycle c w begun first 0) rest (length first) ≡ played form cycle c w begun (lead_in ++ main) 0
-    all_of_it = let e : length first ≡ 0 + length first = omega arith in ap (further (played form cycle c w begun first 0) rest) e ∙ sym (played_append first rest w begun 0) ∙ ap (λ is. played form cycle c w begun is 0) both
+    in_two : (p : Played T) → p ≡ played form cycle c w begun first 0 → further p rest (length first) ≡ played form cycle c w begun (whole_schedule c) 0
+    in_two p e = let k : length first ≡ 0 + length first = omega arith in ap (λ q. further q rest (length first)) e ∙ ap (further (played form cycle c w begun first 0) rest) k ∙ sym (played_append first rest w begun 0) ∙ ap (λ is. played form cycle c w begun is 0) all_of_it
 
-    pub ended_in_first : (r : Result (Unit {0}) (Fault Refusal)) (f : Fault Refusal) (w' : World T) (begun' : List ℕ) → r ≡ Err f → (Err f, w', begun') ≡ played form cycle c w begun first 0 → (r, w', begun') ≡ played form cycle c w begun (lead_in ++ main) 0
-    ended_in_first r f w' begun' z e = ap (λ (x : Result (Unit {0}) (Fault Refusal)). (x, w', begun')) z ∙ ap (λ p. further p rest (length first)) e ∙ all_of_it
+    pub ended_in_first : (r : Result (Unit {0}) (Fault Refusal)) (f : Fault Refusal) (w' : World T) (begun' : List ℕ) → r ≡ Err f → (Err f, w', begun') ≡ played form cycle c w begun first 0 → (r, w', begun') ≡ played form cycle c w begun (whole_schedule c) 0
+    ended_in_first r f w' begun' z e = ap (λ (x : Result (Unit {0}) (Fault Refusal)). (x, w', begun')) z ∙ in_two (Err f, w', begun') e
 
-    pub went_on : (w' : World T) (begun' : List ℕ) (q : Played T) → (Ok tt, w', begun') ≡ played form cycle c w begun first 0 → q ≡ played form cycle c w' begun' rest (length first) → q ≡ played form cycle c w begun (lead_in ++ main) 0
-    went_on w' begun' q e h = h ∙ ap (λ p. further p rest (length first)) e ∙ all_of_it
+    pub went_on : (w' : World T) (begun' : List ℕ) (q : Played T) → (Ok tt, w', begun') ≡ played form cycle c w begun first 0 → q ≡ played form cycle c w' begun' rest (length first) → q ≡ played form cycle c w begun (whole_schedule c) 0
+    went_on w' begun' q e h = h ∙ in_two (Ok tt, w', begun') e

@@ -2,5 +2,4 @@ mod Halves
 mod Moments
 mod Nexts
 mod Ongoing
-mod Openings
 mod Wholes

@@ -1,4 +1,5 @@
 pub mod Moves
+pub mod Players
 pub mod Plays
 pub mod Runs
 pub mod Schedules
