@@ -1,5 +1,3 @@
 mod Halves
 mod Moments
-mod Nexts
-mod Ongoing
 mod Wholes

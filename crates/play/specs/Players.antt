@@ -3,7 +3,7 @@ use Rattle.std.specs.Prelude.{◌≡◌, ℕ, List}
 use Rattle.machine.specs.declared.state.Machine.{Machine}
 use Rattle.runfile.specs.Files.{Contents, contents_of}
 use Rattle.world.specs.Worlds.{World, world}
-use Rattle.play.specs.declared.moves.Player.{Player}
+use Rattle.play.specs.declared.player.Player.{Player}
 
 -- the world that a player is in
 abbrev pub world_of : {B T : Type 0} → (B → List ℕ) → Player B T → World T

@@ -2,6 +2,6 @@
 #![tactic(auto)]
 
 pub mod fault;
-mod moves;
+mod player;
 pub mod playing;
 pub mod schedule;

@@ -1,53 +1,20 @@
 // Playing a run: its schedule entries one after another, up to the first refusal.
-ghost use Rattle.std.specs.Prelude.{◌≡◌, ◌+◌, ◌^◌, ◌<◌, length, OnOk};
+ghost use Rattle.std.specs.Prelude.{◌≡◌, OnOk};
 ghost use Rattle.runfile.specs.Files.{contents_of};
 ghost use Rattle.world.specs.Calls.{new_world};
 ghost use Rattle.world.specs.Worlds.{world};
-ghost use Rattle.play.specs.Players.{Keeps, world_of};
-ghost use Rattle.play.specs.Plays.{played};
-ghost use Rattle.play.specs.Runs.{Reached, ended, ran, whole_schedule};
+ghost use Rattle.play.specs.Runs.{Reached, ended, ran};
 
 use super::fault::Fault;
-use super::moves::Player;
-use super::schedule::Schedule;
+use super::player::Player;
 use faults::numbered::Numbered;
 use history::entry::Entry;
 use machine::state::Machine;
 use runfile::element::Element;
 use runfile::runs::RunFile;
-use turns::bank::{Bank, SLOTS};
+use turns::bank::Bank;
 use turns::shape::Shape;
 use world::cell::Cell;
-
-impl<B: Bank, E: Element> Player<'_, '_, B, E> {
-    // The entries of a schedule, the first of which has the index `first` in the whole run.
-    fn play(&mut self, schedule: &[u8], first: usize) -> Result<(), Fault>
-        requires { first + length schedule.now < 2 ^ 64 }
-        ensures keeps { Keeps self.old self.new }
-        ensures answer { (result, world_of B.Bank.row self.new, self.new.begun) ≡ played E.Element.format B.Bank.cycle (contents_of self.old.run.now) (world_of B.Bank.row self.old) self.old.begun schedule.now first }
-    {
-        for (index, thread) in schedule.iter().enumerate() {
-            let place = first + index;
-            self.move_thread(*thread).map_err(|refusal| refusal.at(place))?;
-        }
-        Ok(())
-    }
-
-    // Both schedules of the run, the lead-in first.
-    fn play_both(&mut self) -> Result<(), Fault>
-        ensures keeps { Keeps self.old self.new }
-        ensures answer { (result, world_of B.Bank.row self.new, self.new.begun) ≡ played E.Element.format B.Bank.cycle (contents_of self.old.run.now) (world_of B.Bank.row self.old) self.old.begun (whole_schedule (contents_of self.old.run.now)) 0 }
-    {
-        let schedule = Schedule {
-            lead_in: self.run.lead_in(),
-            main: self.run.main(),
-        };
-        let first = schedule.still_to_run(0);
-        self.play(first, 0)?;
-        let taken = first.len();
-        self.play(schedule.still_to_run(taken), taken)
-    }
-}
 
 // Opens the machine with a shape and plays the whole run on it. Where nothing is refused, the world at
 // the end is reached by a run of calls from a newly opened machine, and the record's law is true of it.

@@ -2,7 +2,7 @@ use Rattle.std.proofs.Common.{refl, rules}
 use Rattle.runfile.specs.Files.{contents_of}
 use Rattle.play.specs.Players.{world_of}
 use Rattle.play.proofs.Halves.{ended_in_first, went_on}
-use Rattle.play.proofs.moves.Player.play_both.Goals as goal
+use Rattle.play.proofs.player.Player.play_both.Goals as goal
 
 pub returns-in_err-play-clause-answer : goal.returns-in_err-play-clause-answer
 returns-in_err-play-clause-answer g c = let p = c.args.self.now in ended_in_first g.E.Element.format g.B.Bank.cycle (contents_of p.run.now) (world_of g.B.Bank.row p) p.begun c.still_to_run-first.result.now _ (search rules) refl c.from_residual.result c.in_err-play.field-0.0 _ _ (search rules) c.in_err-play.ensures.answer
