@@ -2,7 +2,7 @@
 ghost use Rattle.std.specs.Prelude.{◌≡◌, ◌+◌, ◌^◌, ◌<◌, length, slice_index, IfSome};
 ghost use Rattle.runfile.specs.Files.{contents_of};
 ghost use Rattle.runfile.specs.Programs.{wide};
-ghost use Rattle.play.specs.Moves.{moved, next_begun, next_operation};
+ghost use Rattle.play.specs.Moves.{begins, moved, next_operation};
 ghost use Rattle.play.specs.Players.{Keeps, world_of};
 ghost use Rattle.play.specs.Plays.{played};
 ghost use Rattle.play.specs.Runs.{none_begun, whole_schedule};
@@ -68,10 +68,7 @@ impl<B: Bank, E: Element> Player<'_, '_, B, E> {
     fn begin_next(&mut self, thread: u8) -> Result<(), Refusal>
         requires { thread < 64 }
         ensures keeps { Keeps self.old self.new }
-        ensures bank { self.new.machine.now.bank ≡ self.old.machine.now.bank }
-        ensures cells { self.new.cells.now ≡ self.old.cells.now }
-        ensures entries { self.new.entries.now ≡ self.old.entries.now }
-        ensures answer { (result, self.new.machine.now.table, self.new.hands.now, self.new.begun) ≡ next_begun E.Element.format (contents_of self.old.run.now) self.old.machine.now.table self.old.hands.now self.old.begun thread }
+        ensures answer { (result, world_of B.Bank.row self.new, self.new.begun) ≡ begins E.Element.format (contents_of self.old.run.now) (world_of B.Bank.row self.old) self.old.begun thread }
     {
         let i = thread as usize;
         let Some(operation) = self.next_operation(i) else {
