@@ -14,7 +14,7 @@ use Rattle.world.specs.Calls.{empty_cell, new_table, new_world, opened}
 use Rattle.world.specs.Worlds.{World, world}
 use Rattle.law.specs.Laws.{Law}
 use Rattle.law.specs.Runs.{first}
-use Rattle.play.specs.Plays.{Played, played}
+use Rattle.play.specs.Plays.{played}
 use Rattle.play.specs.Runs.{Reached, ended, none_begun, ran, ran_from, whole_schedule}
 use Rattle.play.proofs.Moments.{played_led}
 

@@ -1,7 +1,5 @@
 -- A player: a machine with the run that it plays, and the caller's buffers.
 use Rattle.std.specs.Prelude.{◌≡◌, ℕ, List}
-use Rattle.machine.specs.declared.state.Machine.{Machine}
-use Rattle.runfile.specs.Files.{Contents, contents_of}
 use Rattle.world.specs.Worlds.{World, world}
 use Rattle.play.specs.declared.player.Player.{Player}
 

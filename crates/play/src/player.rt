@@ -91,8 +91,7 @@ impl<B: Bank, E: Element> Player<'_, '_, B, E> {
         match self.machine.phase(thread)? {
             Phase::Idle => self.begin_next(thread)?,
             Phase::Done(_, _) => {
-                let hands = &mut *self.hands;
-                self.machine.collect(thread, hands)?;
+                self.machine.collect(thread, &mut *self.hands)?;
             }
             _ => {
                 self.machine
@@ -108,9 +107,9 @@ impl<B: Bank, E: Element> Player<'_, '_, B, E> {
         ensures keeps { Keeps self.old self.new }
         ensures answer { (result, world_of B.Bank.row self.new, self.new.begun) ≡ played E.Element.format B.Bank.cycle (contents_of self.old.run.now) (world_of B.Bank.row self.old) self.old.begun schedule.now first }
     {
-        for (index, thread) in schedule.iter().enumerate() {
+        for (index, &thread) in schedule.iter().enumerate() {
             let place = first + index;
-            self.move_thread(*thread)
+            self.move_thread(thread)
                 .map_err(|refusal| refusal.at(place))?;
         }
         Ok(())
