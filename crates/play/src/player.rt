@@ -24,8 +24,8 @@ use world::refusal::Refusal;
 pub(crate) struct Player<'a, 'r, B, E> {
     machine: &'a mut Machine<B>,
     run: &'a RunFile<'r>,
-    // How many bytes of each thread's program are begun. There is no heap: like the machine's table, this has
-    // room for as many threads as any machine.
+    // How many bytes of each thread's program are begun: without a heap, a number for every thread that any
+    // machine has.
     begun: [usize; SLOTS],
     cells: &'a mut [Cell<E>],
     hands: &'a mut [E],
