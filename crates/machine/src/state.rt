@@ -10,7 +10,6 @@ use world::table::Table;
 pub struct Machine<B> {
     pub(crate) bank: B,
     pub(crate) table: Table,
-    ghost long: { length table.threads ≡ 64 },
 }
 
 impl<B> Machine<B> {

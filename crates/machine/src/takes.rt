@@ -1,7 +1,7 @@
 // Takes: the ticket that a thread gets, and the entries that its take writes.
 ghost use Rattle.std.specs.Prelude.{◌≡◌, ◌+◌, ◌<◌, ◌≤◌, length, slice_set};
 ghost use Rattle.history.specs.declared.entry.Kind.TheVariants.{Push, Pop};
-ghost use Rattle.world.specs.Takes.{awaits_pop, count_of, early_popper, lowest_waiting, pop_entered, pop_writes, push_entered, push_writes, record_after, table_after, ticket_limit, writes_of};
+ghost use Rattle.world.specs.Takes.{awaits_pop, count_of, early_popper, pop_entered, pop_writes, push_entered, push_writes, record_after, table_after, ticket_limit, writes_of};
 
 use history::entry::{Entry, Kind};
 use history::pushes::first_push;
@@ -38,32 +38,19 @@ pub(crate) fn writes_of(table: &Table, kind: Kind) -> usize
 fn awaits_pop(phase: Phase, ticket: Ticket) -> bool
     ensures { result ≡ awaits_pop ticket phase }
 {
-    match phase {
-        Phase::Waiting(Kind::Pop, own) => own == ticket,
-        _ => false,
-    }
+    matches!(phase, Phase::Waiting(Kind::Pop, own) if own == ticket)
 }
 
-// The lowest thread at the wait with this pop ticket, or 0 if none is.
-fn lowest_waiting(threads: &[Phase], ticket: Ticket) -> u8
-    requires { length threads.now ≤ 64 }
-    ensures { result ≡ lowest_waiting ticket 0 threads.now }
-{
-    for (i, phase) in threads.iter().enumerate() {
-        if awaits_pop(*phase, ticket) {
-            return i as u8;
-        }
-    }
-    0
-}
-
-// The thread of the pop that is entered behind the push that takes now.
+// The thread of the pop that is entered behind the push that takes now: the lowest that is at the
+// wait with the ticket, or 0 where a table that was made otherwise has none.
 fn early_popper(table: &Table) -> u8
-    requires { length table.now.threads ≡ 64 }
     ensures { result ≡ early_popper table.now }
 {
     let count = table.shape.threads() as usize;
-    lowest_waiting(&table.threads[0..count], table.pushes)
+    table.threads[..count]
+        .iter()
+        .position(|phase| awaits_pop(*phase, table.pushes))
+        .unwrap_or(0) as u8
 }
 
 // Two entries stand behind one another, from this place on.
@@ -78,7 +65,6 @@ fn enter_both<T: Copy>(entries: &mut [Entry<T>], place: usize, first: Entry<T>, 
 // A thread with this element in its hand takes a push ticket. Where the pop of the ticket took
 // before, it is entered directly behind.
 fn take_push<T: Copy>(table: &mut Table, thread: u8, hand: T, entries: &mut [Entry<T>]) -> Ticket
-    requires long { length table.old.threads ≡ 64 }
     requires within { thread < 64 }
     requires unspent { table.old.pushes < ticket_limit }
     requires room { table.old.used + push_writes table.old ≤ length entries.old }
@@ -146,7 +132,6 @@ pub(crate) fn take<T: Copy>(
     hands: &[T],
     entries: &mut [Entry<T>],
 ) -> Ticket
-    requires long { length table.old.threads ≡ 64 }
     requires within { thread < 64 }
     requires hand { thread < length hands.now }
     requires unspent { count_of kind table.old < ticket_limit }
