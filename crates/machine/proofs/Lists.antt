@@ -1,12 +1,11 @@
--- Lists: a read of an element, and the recursions over threads, step by step.
-use Rattle.std.proofs.Common.{◌≡◌, ℕ, zero, suc, ◌+◌, ◌<◌, ◌≤◌, Bool, true, false, cond, ◌&&◌, List, [], ◌∷◌, ◌++◌, Option, Some, None, map, length, get_or, take, drop, refl, sym, ap, arith}
+-- Lists: a read of an element, and the recursions over threads in the words of the library.
+use Rattle.std.proofs.Common.{◌≡◌, ℕ, zero, suc, ◌+◌, ◌<◌, ◌≤◌, Bool, true, false, cond, ◌&&◌, List, [], ◌∷◌, ◌++◌, Option, Some, map, length, get_or, take, drop, refl, sym, ap, arith}
 use Rattle.std.specs.List.{count_by, list_all, position, position_from}
 use Rattle.std.specs.Option.{unwrap_or}
 use Rattle.std.proofs.lemmas.Iterator.Adapters.{position_from-zero}
 use Rattle.std.proofs.lemmas.List.{take_all, drop_all, append-nil}
 use Rattle.std.proofs.lemmas.List.Recursion.{is_count_by, same_from_clauses}
 use Rattle.world.specs.declared.phase.Phase.{Phase}
-use Rattle.world.specs.declared.phase.Phase.TheVariants.{Idle}
 use Rattle.world.specs.Queries.{all_rest, count_waiting, is_waiting, rests}
 use Rattle.world.specs.Takes.{awaits_pop, lowest_waiting}
 use Rattle.world.specs.Worlds.{at}

@@ -33,14 +33,7 @@ impl<B: Bank> Machine<B> {
         ensures bank { self.new.bank ≡ self.old.bank }
         ensures answer { (result, self.new.table, hands.new) ≡ push_begun self.old.table thread element hands.old }
     {
-        let count = self.table.shape.threads();
-        if thread >= count {
-            return Err(Refusal::Stranger);
-        }
-        if hands.len() != count as usize {
-            return Err(Refusal::Misfit);
-        }
-        let i = thread as usize;
+        let i = self.hand(thread, hands)?;
         begin(&mut self.table.threads[i], Kind::Push)?;
         hands[i] = element;
         Ok(())
@@ -51,9 +44,7 @@ impl<B: Bank> Machine<B> {
         ensures bank { self.new.bank ≡ self.old.bank }
         ensures answer { (result, self.new.table) ≡ pop_begun self.old.table thread }
     {
-        if thread >= self.table.shape.threads() {
-            return Err(Refusal::Stranger);
-        }
-        begin(&mut self.table.threads[thread as usize], Kind::Pop)
+        let i = self.row(thread)?;
+        begin(&mut self.table.threads[i], Kind::Pop)
     }
 }

@@ -43,12 +43,9 @@ impl<B: Bank> Machine<B> {
         ensures threads { result.table.shape.threads ≡ 1 }
     {
         bank.clear();
-        let Ok(shape) = Shape::new(1, 1) else {
-            unreachable()
-        };
         Machine {
             bank,
-            table: new_table(shape),
+            table: new_table(Shape::new(1, 1).unwrap()),
         }
     }
 

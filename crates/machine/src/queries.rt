@@ -33,10 +33,8 @@ impl<B> Machine<B> {
     pub fn phase(&self, thread: u8) -> Result<Phase, Refusal>
         ensures { result ≡ phase_answer self.now.table thread }
     {
-        if thread >= self.table.shape.threads() {
-            return Err(Refusal::Stranger);
-        }
-        Ok(self.table.threads[thread as usize])
+        let i = self.row(thread)?;
+        Ok(self.table.threads[i])
     }
 
     // How many threads are at the wait.

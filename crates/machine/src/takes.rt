@@ -1,5 +1,5 @@
 // Takes: the ticket that a thread gets, and the entries that its take writes.
-ghost use Rattle.std.specs.Prelude.{◌≡◌, ◌+◌, ◌<◌, ◌≤◌, length, slice_set};
+ghost use Rattle.std.specs.Prelude.{◌≡◌, ◌+◌, ◌<◌, ◌≤◌, length};
 ghost use Rattle.history.specs.declared.entry.Kind.TheVariants.{Push, Pop};
 ghost use Rattle.world.specs.Takes.{awaits_pop, count_of, early_popper, pop_entered, pop_writes, push_entered, push_writes, record_after, table_after, ticket_limit, writes_of};
 
@@ -53,75 +53,44 @@ fn early_popper(table: &Table) -> u8
         .unwrap_or(0) as u8
 }
 
-// Two entries stand behind one another, from this place on.
-fn enter_both<T: Copy>(entries: &mut [Entry<T>], place: usize, first: Entry<T>, second: Entry<T>)
-    requires { place + 1 < length entries.old }
-    ensures { entries.new ≡ slice_set (slice_set entries.old place first) (place + 1) second }
+// Enters the push that takes now, with this element. Where the pop of its ticket took before, that
+// is entered directly behind.
+fn enter_push<T: Copy>(table: &Table, thread: u8, element: T, entries: &mut [Entry<T>])
+    requires room { table.now.used + push_writes table.now ≤ length entries.old }
+    ensures { entries.new ≡ push_entered table.now thread entries.old element }
 {
-    entries[place] = first;
-    entries[place + 1] = second;
-}
-
-// A thread with this element in its hand takes a push ticket. Where the pop of the ticket took
-// before, it is entered directly behind.
-fn take_push<T: Copy>(table: &mut Table, thread: u8, hand: T, entries: &mut [Entry<T>]) -> Ticket
-    requires within { thread < 64 }
-    requires unspent { table.old.pushes < ticket_limit }
-    requires room { table.old.used + push_writes table.old ≤ length entries.old }
-    ensures ticket { result ≡ table.old.pushes }
-    ensures table { table.new ≡ table_after Push table.old thread }
-    ensures entries { entries.new ≡ push_entered table.old thread entries.old hand }
-{
-    let ticket = table.pushes;
-    let used = table.used;
     let push = Entry {
         kind: Kind::Push,
         thread,
-        ticket,
-        element: hand,
+        ticket: table.pushes,
+        element,
     };
-    if ticket < table.pops {
-        let pop = Entry {
+    entries[table.used] = push;
+    if table.pushes < table.pops {
+        entries[table.used + 1] = Entry {
             kind: Kind::Pop,
             thread: early_popper(table),
             ..push
         };
-        enter_both(entries, used, push, pop);
-        table.used = used + 2;
-    } else {
-        entries[used] = push;
-        table.used = used + 1;
     }
-    table.pushes = ticket + 1;
-    table.threads[thread as usize] = Phase::Waiting(Kind::Push, ticket);
-    ticket
 }
 
-// A thread with this element in its hand takes a pop ticket. It is entered only where the push of
-// the ticket took before, with that push's element.
-fn take_pop<T: Copy>(table: &mut Table, thread: u8, hand: T, entries: &mut [Entry<T>]) -> Ticket
-    requires within { thread < 64 }
-    requires unspent { table.old.pops < ticket_limit }
-    requires room { table.old.used + pop_writes table.old ≤ length entries.old }
-    ensures ticket { result ≡ table.old.pops }
-    ensures table { table.new ≡ table_after Pop table.old thread }
-    ensures entries { entries.new ≡ pop_entered table.old thread entries.old hand }
+// Enters the pop that takes now, with this element in its hand, only where the push of its ticket
+// took before: with that push's element, if the record still has it.
+fn enter_pop<T: Copy>(table: &Table, thread: u8, hand: T, entries: &mut [Entry<T>])
+    requires room { table.now.used + pop_writes table.now ≤ length entries.old }
+    ensures { entries.new ≡ pop_entered table.now thread entries.old hand }
 {
     let ticket = table.pops;
-    let used = table.used;
     if ticket < table.pushes {
-        let element = first_push(entries, used, ticket).unwrap_or(hand);
-        entries[used] = Entry {
+        let element = first_push(entries, table.used, ticket).unwrap_or(hand);
+        entries[table.used] = Entry {
             kind: Kind::Pop,
             thread,
             ticket,
             element,
         };
-        table.used = used + 1;
     }
-    table.pops = ticket + 1;
-    table.threads[thread as usize] = Phase::Waiting(Kind::Pop, ticket);
-    ticket
 }
 
 // A thread takes a ticket of this kind, with what is in its hand.
@@ -140,9 +109,20 @@ pub(crate) fn take<T: Copy>(
     ensures table { table.new ≡ table_after kind table.old thread }
     ensures entries { entries.new ≡ record_after kind table.old thread hands.now entries.old }
 {
+    let ticket = count_of(table, kind);
+    let writes = writes_of(table, kind);
     let hand = hands[thread as usize];
     match kind {
-        Kind::Push => take_push(table, thread, hand, entries),
-        Kind::Pop => take_pop(table, thread, hand, entries),
+        Kind::Push => {
+            enter_push(table, thread, hand, entries);
+            table.pushes = ticket + 1;
+        }
+        Kind::Pop => {
+            enter_pop(table, thread, hand, entries);
+            table.pops = ticket + 1;
+        }
     }
+    table.used += writes;
+    table.threads[thread as usize] = Phase::Waiting(kind, ticket);
+    ticket
 }
