@@ -8,7 +8,7 @@ pub enum Kind {
 }
 
 // What took effect, by which thread, with which ticket, and the element that went in or came out.
-#[derive(Clone, Copy)]
+#[derive(Clone, Copy, PartialEq, Eq, Debug)]
 pub struct Entry<E> {
     pub kind: Kind,
     pub thread: u8,

@@ -6,7 +6,7 @@ pub enum Mark {
 }
 
 // An element and its mark. An emptied cell keeps its element.
-#[derive(Clone, Copy)]
+#[derive(Clone, Copy, PartialEq, Eq, Debug)]
 pub struct Cell<T> {
     pub element: T,
     pub mark: Mark,

@@ -3,7 +3,7 @@ use history::entry::Kind;
 use turns::ticket::Ticket;
 
 // A push stores and completes; a pop reads, empties and completes. From its take on, an operation has its ticket.
-#[derive(Clone, Copy)]
+#[derive(Clone, Copy, PartialEq, Eq, Debug)]
 pub enum Phase {
     Idle,
     Taking(Kind),

@@ -1,6 +1,10 @@
 // Why a call is declined, with the number and the word that users are told.
-ghost use Rattle.std.specs.Prelude.{◌≡◌};
+ghost use Rattle.std.specs.Prelude.{Some};
 ghost use Rattle.world.specs.Refusals.{number_of, word_of};
+
+use faults::numbered::Numbered;
+use std::error::Error;
+use std::fmt;
 
 #[derive(Clone, Copy, PartialEq, Eq, Debug)]
 pub enum Refusal {
@@ -15,26 +19,31 @@ pub enum Refusal {
     BadShape = 9,
 }
 
-impl Refusal {
-    pub fn number(self) -> u8
-        ensures { result ≡ number_of self }
-    {
+impl Numbered for Refusal {
+    ghost told = { number_of };
+
+    fn number(self) -> u8 {
         self as u8
     }
+}
 
-    pub fn word(self) -> &'static [u8]
-        ensures { result.now ≡ word_of self }
-    {
-        match self {
-            Refusal::Stranger => b"stranger",
-            Refusal::Misfit => b"misfit",
-            Refusal::Busy => b"busy",
-            Refusal::NoWork => b"no work",
-            Refusal::Spent => b"spent",
-            Refusal::RecordFull => b"record full",
-            Refusal::Unfinished => b"unfinished",
-            Refusal::ShortCycle => b"short cycle",
-            Refusal::BadShape => b"bad shape",
-        }
+impl fmt::Display for Refusal {
+    ghost output = { λ refusal. Some (word_of refusal) };
+
+    fn fmt<W: fmt::Write>(&self, f: &mut fmt::Formatter<W>) -> fmt::Result {
+        let word = match self {
+            Refusal::Stranger => "stranger",
+            Refusal::Misfit => "misfit",
+            Refusal::Busy => "busy",
+            Refusal::NoWork => "no work",
+            Refusal::Spent => "spent",
+            Refusal::RecordFull => "record full",
+            Refusal::Unfinished => "unfinished",
+            Refusal::ShortCycle => "short cycle",
+            Refusal::BadShape => "bad shape",
+        };
+        f.write_str(word)
     }
 }
+
+impl Error for Refusal {}

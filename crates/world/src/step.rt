@@ -1,6 +1,8 @@
 // What a step did.
-ghost use Rattle.std.specs.Prelude.{◌≡◌};
+ghost use Rattle.std.specs.Prelude.{Some};
 ghost use Rattle.world.specs.StepNames.{name_of};
+
+use std::fmt;
 
 #[derive(Clone, Copy, PartialEq, Eq, Debug)]
 pub enum Step {
@@ -13,19 +15,19 @@ pub enum Step {
     Completed,
 }
 
-impl Step {
-    // The name by which the step answers.
-    pub fn name(self) -> &'static [u8]
-        ensures { result.now ≡ name_of self }
-    {
-        match self {
-            Step::Took => b"took",
-            Step::Waited => b"waited",
-            Step::Passed => b"passed",
-            Step::Stored => b"stored",
-            Step::Read => b"read",
-            Step::Emptied => b"emptied",
-            Step::Completed => b"completed",
-        }
+// The name by which the step answers.
+impl fmt::Display for Step {
+    ghost output = { λ step. Some (name_of step) };
+
+    fn fmt<W: fmt::Write>(&self, f: &mut fmt::Formatter<W>) -> fmt::Result {
+        f.write_str(match self {
+            Step::Took => "took",
+            Step::Waited => "waited",
+            Step::Passed => "passed",
+            Step::Stored => "stored",
+            Step::Read => "read",
+            Step::Emptied => "emptied",
+            Step::Completed => "completed",
+        })
     }
 }
