@@ -52,7 +52,7 @@ impl<B> Machine<B> {
 impl<B: Bank> Machine<B> {
     // A thread rests when it is idle, done, or at the wait for a turn that has not come.
     fn rests(&self, phase: Phase) -> bool
-        ensures { result ≡ rests B.Bank.cycle (B.Bank.row self.now.bank) self.now.table.shape.slots phase }
+        ensures { result ≡ rests B.Bank.CYCLE (B.Bank.row self.now.bank) self.now.table.shape.slots phase }
     {
         match phase {
             Phase::Idle | Phase::Done(_, _) => true,
@@ -63,7 +63,7 @@ impl<B: Bank> Machine<B> {
 
     // Whether every thread rests.
     pub fn at_rest(&self) -> bool
-        ensures { result ≡ at_rest B.Bank.cycle (B.Bank.row self.now.bank) self.now.table }
+        ensures { result ≡ at_rest B.Bank.CYCLE (B.Bank.row self.now.bank) self.now.table }
     {
         let count = self.table.shape.threads() as usize;
         self.table.threads[..count]

@@ -62,7 +62,7 @@ impl<B: Bank> Machine<B> {
         hands: &mut [T],
         entries: &mut [Entry<T>],
     ) -> Result<(Step, Ticket), Refusal>
-        ensures answer { (result, world (B.Bank.row self.new.bank) self.new.table cells.new hands.new entries.new) ≡ stepped B.Bank.cycle (world (B.Bank.row self.old.bank) self.old.table cells.old hands.old entries.old) thread }
+        ensures answer { (result, world (B.Bank.row self.new.bank) self.new.table cells.new hands.new entries.new) ≡ stepped B.Bank.CYCLE (world (B.Bank.row self.old.bank) self.old.table cells.old hands.old entries.old) thread }
     {
         let shape = self.table.shape;
         let i = self.hand(thread, hands)?;

@@ -1,5 +1,5 @@
 // Takes: the ticket that a thread gets, and the entries that its take writes.
-ghost use Rattle.std.specs.Prelude.{◌≡◌, ◌+◌, ◌<◌, ◌≤◌, length};
+ghost use Rattle.std.specs.Prelude.{◌≡◌, ◌+◌, ◌<◌, ◌≤◌, length, position};
 ghost use Rattle.history.specs.declared.entry.Kind.TheVariants.{Push, Pop};
 ghost use Rattle.world.specs.Takes.{awaits_pop, count_of, early_popper, pop_entered, pop_writes, push_entered, push_writes, record_after, table_after, ticket_limit, writes_of};
 
@@ -41,16 +41,20 @@ fn awaits_pop(phase: Phase, ticket: Ticket) -> bool
     matches!(phase, Phase::Waiting(Kind::Pop, own) if own == ticket)
 }
 
-// The thread of the pop that is entered behind the push that takes now: the lowest that is at the
-// wait with the ticket, or 0 where a table that was made otherwise has none.
+// The first of these threads that is at the wait with this pop ticket, if one is.
+fn waiting_place(threads: &[Phase], ticket: Ticket) -> Option<usize>
+    ensures { result ≡ position (awaits_pop ticket) threads.now }
+{
+    threads.iter().position(|phase| awaits_pop(*phase, ticket))
+}
+
+// The thread of the pop that is entered behind the push that takes now, or 0 where none waits with
+// its ticket, which no run comes to.
 fn early_popper(table: &Table) -> u8
     ensures { result ≡ early_popper table.now }
 {
     let count = table.shape.threads() as usize;
-    table.threads[..count]
-        .iter()
-        .position(|phase| awaits_pop(*phase, table.pushes))
-        .unwrap_or(0) as u8
+    waiting_place(&table.threads[..count], table.pushes).unwrap_or(0) as u8
 }
 
 // Enters the push that takes now, with this element. Where the pop of its ticket took before, that

@@ -8,4 +8,4 @@ use Rattle.machine.proofs.state.Machine.at_rest.Goals as goal
 pub returns : goal.returns
 returns g c =
     let m = c.args.self.now in
-    rw (all_resting) (all_from_yields_List (rests g.B.Bank.cycle (g.B.Bank.row m.bank) m.table.shape.slots) _ _ _ c.all.ensures.ran (YieldsList-from_slice (take m.table.shape.threads m.table.threads) cc) (λ x b q k. search (rules, tests)))
+    rw (all_resting) (all_from_yields_List (rests g.B.Bank.CYCLE (g.B.Bank.row m.bank) m.table.shape.slots) _ _ _ c.all.ensures.ran (YieldsList-from_slice (take m.table.shape.threads m.table.threads) cc) (λ x b q k. search (rules, tests)))

@@ -24,5 +24,5 @@ returns-in-Taking-default g c =
     } in
     let same : c.in_ok-i.i ≡ i = search rules in
     let lent = lent_back m.table i in
-    let s = took g.B.Bank.cycle w i kind a in
+    let s = took g.B.Bank.CYCLE w i kind a in
     record { answer = cc }
