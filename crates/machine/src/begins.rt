@@ -13,13 +13,11 @@ use world::refusal::Refusal;
 fn begin(row: &mut Phase, kind: Kind) -> Result<(), Refusal>
     ensures { (result, row.new) ≡ begun row.old kind }
 {
-    match *row {
-        Phase::Idle => {
-            *row = Phase::Taking(kind);
-            Ok(())
-        }
-        _ => Err(Refusal::Busy),
+    if *row != Phase::Idle {
+        return Err(Refusal::Busy);
     }
+    *row = Phase::Taking(kind);
+    Ok(())
 }
 
 impl<B: Bank> Machine<B> {

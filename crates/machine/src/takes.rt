@@ -34,18 +34,13 @@ pub(crate) fn writes_of(table: &Table, kind: Kind) -> usize
     }
 }
 
-// Whether a thread in this phase is at the wait with this pop ticket.
-fn awaits_pop(phase: Phase, ticket: Ticket) -> bool
-    ensures { result ≡ awaits_pop ticket phase }
-{
-    matches!(phase, Phase::Waiting(Kind::Pop, own) if own == ticket)
-}
-
 // The first of these threads that is at the wait with this pop ticket, if one is.
 fn waiting_place(threads: &[Phase], ticket: Ticket) -> Option<usize>
     ensures { result ≡ position (awaits_pop ticket) threads.now }
 {
-    threads.iter().position(|phase| awaits_pop(*phase, ticket))
+    threads
+        .iter()
+        .position(|phase| *phase == Phase::Waiting(Kind::Pop, ticket))
 }
 
 // The thread of the pop that is entered behind the push that takes now, or 0 where none waits with
