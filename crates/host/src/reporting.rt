@@ -32,8 +32,8 @@ fn report_run<B: Bank + Drop, E: Element>(
     entries: &mut [Entry<E>],
     area: &mut [u8],
 ) -> Result<usize, Fault>
-    ensures writes { Writes result area.old area.new (told_run E.Element.printed shape (length area.old) (ran E.Element.format B.Bank.cycle (contents_of run.now) shape (world cleared (new_table shape) cells.old hands.old entries.old))) }
-    ensures faithful { IfOk result (λ size. Faithful E.Element.printed B.Bank.cycle shape (take size area.new)) }
+    ensures writes { Writes result area.old area.new (told_run E.Element.printed shape (length area.old) (ran E.Element.format B.Bank.CYCLE (contents_of run.now) shape (world cleared (new_table shape) cells.old hands.old entries.old))) }
+    ensures faithful { IfOk result (λ size. Faithful E.Element.printed B.Bank.CYCLE shape (take size area.new)) }
 {
     let mut machine = Machine::new(bank);
     play_run(&mut machine, run, shape, cells, hands, entries)?;

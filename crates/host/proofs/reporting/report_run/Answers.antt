@@ -12,7 +12,7 @@ pub returns-in_err-play_run : goal.returns-in_err-play_run
 returns-in_err-play_run g c =
     let form = g.E.Element.format in
     let printed = g.E.Element.printed in
-    let cycle = g.B.Bank.cycle in
+    let cycle = g.B.Bank.CYCLE in
     let run = contents_of c.args.run.now in
     let shape = c.args.shape in
     let room = length c.args.area.now in
@@ -37,8 +37,8 @@ returns g c =
     let room = length c.args.area.now in
     let made = c.new-machine.result in
     let before = world (g.B.Bank.row made.bank) made.table c.args.cells.now c.args.hands.now c.args.entries.now in
-    let p = ran g.E.Element.format g.B.Bank.cycle (contents_of c.args.run.now) shape before in
-    let anyway = told_anyway g.E.Element.format printed room g.B.Bank.cycle (contents_of c.args.run.now) shape (g.B.Bank.row made.bank) made.table c.args.cells.now c.args.hands.now c.args.entries.now in
+    let p = ran g.E.Element.format g.B.Bank.CYCLE (contents_of c.args.run.now) shape before in
+    let anyway = told_anyway g.E.Element.format printed room g.B.Bank.CYCLE (contents_of c.args.run.now) shape (g.B.Bank.row made.bank) made.table c.args.cells.now c.args.hands.now c.args.entries.now in
     record {
       writes = (
         _,
