@@ -4,7 +4,6 @@ use Rattle.std.proofs.lemmas.List.{drop-drop, take-append-drop, length-take-le}
 use Rattle.std.proofs.lemmas.Bool.{ltb-false, ltb-true, eqb-true, eq-eqb, ne_eqb, cases_eq}
 use Rattle.std.proofs.lemmas.Bool.Decides.{nat_tests}
 use Rattle.std.specs.List.{flat_map, AllByRecursion}
-use Rattle.runfile.specs.declared.fault.Fault.{Fault}
 use Rattle.runfile.specs.declared.kinds.ElementKind.{ElementKind}
 use Rattle.runfile.specs.declared.kinds.ElementKind.TheVariants.{Number, Letter}
 use Rattle.runfile.specs.declared.kinds.BankKind.{BankKind}
@@ -14,7 +13,7 @@ use Rattle.runfile.specs.declared.operation.Operation.TheVariants.{Push, Pop}
 use Rattle.runfile.specs.declared.table.Entry.{Entry}
 use Rattle.runfile.specs.Chains.{chain}
 use Rattle.runfile.specs.Elements.{Format, element, number_format, letter_format}
-use Rattle.runfile.specs.Faults.{cut, contents, body, tail}
+use Rattle.runfile.specs.Faults.{FileFault, cut, contents, body, tail}
 use Rattle.runfile.specs.Files.{Contents, counted, table, divided, programs_checked, run_checked, bodies_checked, programs_in, lead_in_in, main_in, parsed}
 use Rattle.runfile.specs.Forms.{entries_for, element_code, bank_code, Program, done, pop, push, Programs, Read, Described, Formed}
 use Rattle.runfile.specs.Headers.{headed}
@@ -161,9 +160,9 @@ described file c e =
     } in
     subst (Described file) (ap (λ x. record { header = x; bodies = bs }) same ∙ ok_same (record { header = h; bodies = bs }) c d.2) of
 
-formed_by : (file : List ℕ) (r : Result Contents Fault) → ((c : Contents) → r ≡ Ok c → Described file c) → Until (length file) r → Formed file r
+formed_by : (file : List ℕ) (r : Result Contents FileFault) → ((c : Contents) → r ≡ Ok c → Described file c) → Until (length file) r → Formed file r
 formed_by file (Ok c) d u = d c refl
 formed_by file (Err f) d u = u
 
-pub formed : (file : List ℕ) (r : Result Contents Fault) → r ≡ parsed file → Formed file r
+pub formed : (file : List ℕ) (r : Result Contents FileFault) → r ≡ parsed file → Formed file r
 formed file r e = subst (Formed file) (sym e) (formed_by file (parsed file) (described file) (parsed_until file))

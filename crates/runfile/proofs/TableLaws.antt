@@ -4,11 +4,10 @@ use Rattle.std.proofs.lemmas.List.{take_rest, take_more_set, map-set, length-map
 use Rattle.std.specs.List.{flat_map}
 use Rattle.std.proofs.lemmas.Slice.{between_to_end}
 use Rattle.std.proofs.lemmas.Bool.{le-ltb, eq-eqb, eqb-true}
-use Rattle.runfile.specs.declared.fault.Fault.{Fault}
 use Rattle.runfile.specs.declared.table.Entry.{Entry}
 use Rattle.runfile.specs.Elements.{big_endian}
 use Rattle.runfile.specs.Chains.{chain}
-use Rattle.runfile.specs.Faults.{cut, tail}
+use Rattle.runfile.specs.Faults.{FileFault, cut, tail}
 use Rattle.runfile.proofs.ChainLaws.{chain_ok, cond_ok, cond_not_ok, ok_same}
 use Rattle.runfile.specs.Tables.{entries, bodied}
 
@@ -32,11 +31,11 @@ entries_length zero (x ∷ a ∷ b ∷ c ∷ d ∷ xs) h = absurd (omega arith)
 entries_length (suc k) (x ∷ a ∷ b ∷ c ∷ d ∷ xs) h = ap suc (entries_length k xs (omega arith))
 
 -- one more part: the parts before, and then those that are cut from what is left
-cut_on : (got more : List (List ℕ)) (part : List ℕ) (r : Result (List (List ℕ)) Fault) → more ≡ got ++ (part ∷ []) → chain (chain r (λ bs. Ok (part ∷ bs))) (λ bs. Ok (got ++ bs)) ≡ chain r (λ bs. Ok (more ++ bs))
+cut_on : (got more : List (List ℕ)) (part : List ℕ) (r : Result (List (List ℕ)) FileFault) → more ≡ got ++ (part ∷ []) → chain (chain r (λ bs. Ok (part ∷ bs))) (λ bs. Ok (got ++ bs)) ≡ chain r (λ bs. Ok (more ++ bs))
 cut_on got more part (Ok bs) e = ap Ok (sym (ap (λ l. l ++ bs) e ∙ append_assoc got (part ∷ []) bs))
 cut_on got more part (Err f) e = refl
 
-module _ (end i : ℕ) (left : List ℕ) (cuts : List (Bor (List ℕ))) (whole : Result (List (List ℕ)) Fault) where
+module _ (end i : ℕ) (left : List ℕ) (cuts : List (Bor (List ℕ))) (whole : Result (List (List ℕ)) FileFault) where
   pub bodied_more : (part : Bor (List ℕ)) (all es : List Entry) (e : Entry) → all ≡ e ∷ es → e.size ≤ length left → i < length cuts → part.now ≡ take (e.size - 0) left → whole ≡ chain (bodied all left end) (λ bs. Ok (take i (map (λ x. x.now) cuts) ++ bs)) → whole ≡ chain (bodied es (take (length left - e.size) (drop e.size left)) end) (λ bs. Ok (take (i + 1) (map (λ x. x.now) (set cuts i part)) ++ bs))
   bodied_more part all es e split within room is before =
       let z : e.size - 0 ≡ e.size = omega arith in

@@ -1,11 +1,10 @@
 -- The table of contents: the kinds 1, then 2 for each thread, then 3, then 4, each with its body's length.
 use Rattle.std.specs.Prelude.{ℕ, ◌+◌, ◌-◌, ◌*◌, Bool, true, false, cond, List, [], ◌∷◌, map, length, take, drop, Ok, Err, Result, ◌==◌, nat_lt}
-use Rattle.runfile.specs.declared.fault.Fault.{Fault}
 use Rattle.runfile.specs.declared.bodies.Bodies.{Bodies}
 use Rattle.runfile.specs.declared.table.Entry.{Entry}
 use Rattle.runfile.specs.Chains.{chain}
 use Rattle.runfile.specs.Elements.{big_endian}
-use Rattle.runfile.specs.Faults.{cut, contents, tail}
+use Rattle.runfile.specs.Faults.{FileFault, cut, contents, tail}
 
 -- the entries of a table: a kind byte, then the length in four bytes, the most significant first
 abbrev pub entries : List ℕ → List Entry
@@ -25,12 +24,12 @@ abbrev pub right : ℕ → ℕ → Entry → Bool
 right count i e = cond (e.kind == expected count i) (cond (i == 0) (e.size == 4) true) false
 
 -- the entries from entry `i` on: the first wrong one is the fault; the table begins at byte 1
-abbrev pub tabled : ℕ → ℕ → List Entry → Result (Unit {0}) Fault
+abbrev pub tabled : ℕ → ℕ → List Entry → Result (Unit {0}) FileFault
 tabled count i [] = Ok tt
 tabled count i (e ∷ es) = cond (right count i e) (tabled count (i + 1) es) (Err (contents (1 + 5 * i)))
 
 -- the bodies, one after another, up to the file's end
-abbrev pub bodied : List Entry → List ℕ → ℕ → Result (List (List ℕ)) Fault
+abbrev pub bodied : List Entry → List ℕ → ℕ → Result (List (List ℕ)) FileFault
 bodied [] bytes end = cond (length bytes == 0) (Ok []) (Err (tail (end - length bytes)))
 bodied (e ∷ es) bytes end =
     cond (nat_lt (length bytes) e.size) (Err (cut end))
@@ -40,5 +39,5 @@ bodied (e ∷ es) bytes end =
 abbrev pub cut_of : ℕ → Bodies → List (List ℕ)
 cut_of count b = take count (map (λ x. x.now) b.cuts)
 
-abbrev pub parts : ℕ → Result Bodies Fault → Result (List (List ℕ)) Fault
+abbrev pub parts : ℕ → Result Bodies FileFault → Result (List (List ℕ)) FileFault
 parts count r = chain r (λ b. Ok (cut_of count b))

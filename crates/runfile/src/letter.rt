@@ -4,7 +4,8 @@ ghost use Rattle.runfile.specs.Elements.{letter_format, letter_text, mark};
 ghost use Rattle.std.proofs.Common.{rules};
 
 use super::element::Element;
-use super::fault::Fault;
+use super::fault::{Fault, FileRefusal};
+use faults::numbered::Numbered;
 use text::holder::Text;
 
 #[derive(Clone, Copy, PartialEq, Eq, Debug)]
@@ -47,12 +48,12 @@ impl Element for Letter {
 
     fn read(bytes: &[u8], place: usize) -> Result<Letter, Fault> {
         let [sender, tone, a, b, c, d, ..] = bytes else {
-            return Err(Fault::body(place));
+            return Err(FileRefusal::Body.at(place));
         };
         let tone = match *tone {
             0 => Tone::Plain,
             1 => Tone::Urgent,
-            _ => return Err(Fault::body(place)),
+            _ => return Err(FileRefusal::Body.at(place)),
         };
         let serial = u32::from_be_bytes([*a, *b, *c, *d]);
         Ok(Letter {

@@ -4,7 +4,8 @@ ghost use Rattle.runfile.specs.Elements.{number_format, number_text};
 ghost use Rattle.std.proofs.Common.{rules};
 
 use super::element::Element;
-use super::fault::Fault;
+use super::fault::{Fault, FileRefusal};
+use faults::numbered::Numbered;
 use text::holder::Text;
 
 #[derive(Clone, Copy, PartialEq, Eq, Debug)]
@@ -31,7 +32,7 @@ impl Element for Number {
                 let value = u32::from_be_bytes([*a, *b, *c, *d]);
                 Ok(Number { value })
             }
-            _ => Err(Fault::body(place)),
+            _ => Err(FileRefusal::Body.at(place)),
         }
     }
 

@@ -2,7 +2,8 @@
 ghost use Rattle.std.specs.Prelude.{◌≡◌, ◌+◌, ◌≤◌, length};
 ghost use Rattle.runfile.specs.Schedules.{scheduled};
 
-use super::fault::Fault;
+use super::fault::{Fault, FileRefusal};
+use faults::numbered::Numbered;
 
 // Refuses a schedule at its first thread that the run does not have.
 pub(crate) fn check_schedule(schedule: &[u8], threads: u8, place: usize) -> Result<(), Fault>
@@ -11,7 +12,7 @@ pub(crate) fn check_schedule(schedule: &[u8], threads: u8, place: usize) -> Resu
 {
     for (index, thread) in schedule.iter().enumerate() {
         if *thread >= threads {
-            return Err(Fault::body(place + index));
+            return Err(FileRefusal::Body.at(place + index));
         }
     }
     Ok(())

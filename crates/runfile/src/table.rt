@@ -3,7 +3,8 @@ ghost use Rattle.std.specs.Prelude.{◌≡◌, ◌+◌, ◌*◌, ◌^◌, ◌<�
 ghost use Rattle.runfile.specs.Tables.{bodied, entries, expected, parts, right, tabled};
 
 use super::bodies::Bodies;
-use super::fault::Fault;
+use super::fault::{Fault, FileRefusal};
+use faults::numbered::Numbered;
 
 #[derive(Clone, Copy)]
 pub struct Entry {
@@ -57,7 +58,7 @@ pub(crate) fn check_table(table: &[u8], count: usize) -> Result<(), Fault>
     let mut index = 0;
     while let Some((entry, more)) = split_entry(rest) {
         if !is_right(entry, index, count) {
-            return Err(Fault::contents(1 + 5 * index));
+            return Err(FileRefusal::Contents.at(1 + 5 * index));
         }
         rest = more;
         index += 1;
@@ -82,7 +83,7 @@ pub(crate) fn cut_bodies<'a>(
     while let Some((entry, more)) = split_entry(rest) {
         let size = entry.size as usize;
         if left.len() < size {
-            return Err(Fault::cut(end));
+            return Err(FileRefusal::Cut.at(end));
         }
         cuts[index] = &left[0..size];
         left = &left[size..];
@@ -90,7 +91,7 @@ pub(crate) fn cut_bodies<'a>(
         index += 1;
     }
     if !left.is_empty() {
-        return Err(Fault::tail(end - left.len()));
+        return Err(FileRefusal::Tail.at(end - left.len()));
     }
     Ok(Bodies { cuts })
 }
