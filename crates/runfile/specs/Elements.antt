@@ -1,5 +1,6 @@
 -- Elements in files: each kind has a width in bytes, a rule for lawful bytes, a reading and a text.
 use Rattle.std.specs.Prelude.{ℕ, ◌+◌, ◌*◌, Bool, true, cond, List, [], ◌++◌, length, take, Ok, Err, codes, decimal, Result, ◌==◌, nat_lt, slice_index}
+use Rattle.runfile.specs.declared.kinds.UnknownKind.{UnknownKind}
 use Rattle.runfile.specs.declared.number.Number.{Number}
 use Rattle.runfile.specs.declared.letter.Letter.{Letter}
 use Rattle.runfile.specs.declared.letter.Tone.{Tone}
@@ -38,6 +39,9 @@ number_text n = decimal n.value
 -- a letter: a sender, a tone that is 0 (plain) or 1 (urgent), and four bytes of a serial number
 abbrev pub tone : ℕ → Tone
 tone b = cond (b == 0) Plain Urgent
+
+abbrev pub tone_read : ℕ → Result Tone UnknownKind
+tone_read b = cond (nat_lt b 2) (Ok (tone b)) (Err (record { 0 = b }))
 
 abbrev pub letter_format : Format Letter
 letter_format = record {

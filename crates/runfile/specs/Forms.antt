@@ -1,5 +1,5 @@
 -- What a run file is, in the words of its description: a table, then the bodies that it speaks of, and nothing left over.
-use Rattle.std.specs.Prelude.{◌≡◌, ℕ, ◌+◌, ◌<◌, ◌≤◌, true, List, [], ◌∷◌, ◌++◌, length, Ok, Result, MatchResult, slice_index_or}
+use Rattle.std.specs.Prelude.{◌≡◌, ℕ, ◌+◌, ◌<◌, ◌≤◌, true, List, [], ◌∷◌, ◌++◌, length, Some, Ok, Result, MatchResult, slice_index_or}
 use Rattle.std.specs.List.{flat_map, AllByRecursion}
 use Rattle.runfile.specs.Faults.{FileFault}
 use Rattle.runfile.specs.declared.kinds.ElementKind.{ElementKind}
@@ -15,7 +15,7 @@ use Rattle.runfile.specs.Tables.{entries, expected}
 -- the entries of a table for these bodies: each has the kind of its place and the body's length
 abbrev pub entries_for : ℕ → ℕ → List (List ℕ) → List Entry
 entries_for count i [] = []
-entries_for count i (b ∷ bs) = record { kind = expected count i; size = length b } ∷ entries_for count (i + 1) bs
+entries_for count i (b ∷ bs) = record { kind = Some (expected count i); size = length b } ∷ entries_for count (i + 1) bs
 
 abbrev pub element_code : ElementKind → ℕ
 element_code Number = 1

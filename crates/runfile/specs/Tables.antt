@@ -1,9 +1,12 @@
--- The table of contents: the kinds 1, then 2 for each thread, then 3, then 4, each with its body's length.
+-- The table of contents: a shape, then a program for each thread, a lead-in and a main schedule, each with its body's length.
 use Rattle.std.specs.Prelude.{ℕ, ◌+◌, ◌-◌, ◌*◌, Bool, true, false, cond, List, [], ◌∷◌, map, length, take, drop, Ok, Err, Result, ◌==◌, nat_lt}
 use Rattle.runfile.specs.declared.bodies.Bodies.{Bodies}
+use Rattle.runfile.specs.declared.kinds.BodyKind.{BodyKind}
+use Rattle.runfile.specs.declared.kinds.BodyKind.TheVariants.{Shape, Program, LeadIn, Main}
 use Rattle.runfile.specs.declared.table.Entry.{Entry}
 use Rattle.runfile.specs.Chains.{chain}
 use Rattle.runfile.specs.Elements.{big_endian}
+use Rattle.runfile.specs.Kinds.{body_kind, is_kind}
 use Rattle.runfile.specs.Faults.{FileFault, cut, contents, tail}
 
 -- the entries of a table: a kind byte, then the length in four bytes, the most significant first
@@ -13,15 +16,15 @@ entries (k ∷ []) = []
 entries (k ∷ a ∷ []) = []
 entries (k ∷ a ∷ b ∷ []) = []
 entries (k ∷ a ∷ b ∷ c ∷ []) = []
-entries (k ∷ a ∷ b ∷ c ∷ d ∷ rest) = record { kind = k; size = big_endian a b c d } ∷ entries rest
+entries (k ∷ a ∷ b ∷ c ∷ d ∷ rest) = record { kind = body_kind k; size = big_endian a b c d } ∷ entries rest
 
 -- the kind of entry `i` of `count`
-abbrev pub expected : ℕ → ℕ → ℕ
-expected count i = cond (i == 0) 1 (cond (nat_lt i (count - 2)) 2 (cond (i == count - 2) 3 4))
+abbrev pub expected : ℕ → ℕ → BodyKind
+expected count i = cond (i == 0) Shape (cond (nat_lt i (count - 2)) Program (cond (i == count - 2) LeadIn Main))
 
 -- an entry of another kind is wrong, and so is a shape that is not four bytes long
 abbrev pub right : ℕ → ℕ → Entry → Bool
-right count i e = cond (e.kind == expected count i) (cond (i == 0) (e.size == 4) true) false
+right count i e = cond (is_kind e.kind (expected count i)) (cond (i == 0) (e.size == 4) true) false
 
 -- the entries from entry `i` on: the first wrong one is the fault; the table begins at byte 1
 abbrev pub tabled : ℕ → ℕ → List Entry → Result (Unit {0}) FileFault

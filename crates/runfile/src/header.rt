@@ -43,8 +43,8 @@ pub(crate) fn read_header(body: &[u8], count: usize, place: usize) -> Result<Hea
     if *threads != expected {
         return Err(FileRefusal::Body.at(place + 1));
     }
-    let element = ElementKind::from_code(*element).ok_or(FileRefusal::Body.at(place + 2))?;
-    let bank = BankKind::from_code(*bank).ok_or(FileRefusal::Body.at(place + 3))?;
+    let element = ElementKind::try_from(*element).map_err(|_| FileRefusal::Body.at(place + 2))?;
+    let bank = BankKind::try_from(*bank).map_err(|_| FileRefusal::Body.at(place + 3))?;
     Ok(Header {
         slots: *slots,
         threads: *threads,

@@ -16,15 +16,15 @@ pub struct Number {
 impl Element for Number {
     const WIDTH: usize = 4;
 
+    ghost WIDTH = { 4 };
+
     ghost format = { number_format };
 
     ghost printed = { number_text };
 
-    ghost narrow = { Prim.search rules };
+    ghost wide = { Prim.search rules };
 
-    fn byte_count() -> usize {
-        Self::WIDTH
-    }
+    ghost narrow = { Prim.search rules };
 
     fn read(bytes: &[u8], place: usize) -> Result<Number, Fault> {
         match bytes {

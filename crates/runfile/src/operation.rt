@@ -20,7 +20,7 @@ impl<E: Element> Operation<E> {
         ensures { result ≡ wide E.Element.format.width self.now }
     {
         match self {
-            Operation::Push(_) => 1 + E::byte_count(),
+            Operation::Push(_) => 1 + E::WIDTH,
             Operation::Pop => 1,
         }
     }
