@@ -1,7 +1,6 @@
 -- What the lister prints: the parts of a run file a line each, words and numbers apart by a space, every number in decimal.
 use Rattle.std.specs.Prelude.{ℕ, ◌+◌, List, [], ◌∷◌, ◌++◌, Ok, Err, codes, decimal, Result}
 use Rattle.std.specs.List.{flat_map}
-use Rattle.runfile.specs.declared.fault.Fault.{Fault}
 use Rattle.runfile.specs.declared.header.Header.{Header}
 use Rattle.runfile.specs.declared.kinds.BankKind.{BankKind}
 use Rattle.runfile.specs.declared.kinds.BankKind.TheVariants.{Word, Nibble}
@@ -10,7 +9,7 @@ use Rattle.runfile.specs.declared.kinds.ElementKind.TheVariants.{Number, Letter}
 use Rattle.runfile.specs.declared.operation.Operation.{Operation}
 use Rattle.runfile.specs.declared.operation.Operation.TheVariants.{Push, Pop}
 use Rattle.runfile.specs.Elements.{Format, number_format, number_text, letter_format, letter_text}
-use Rattle.runfile.specs.Faults.{number_of}
+use Rattle.runfile.specs.Faults.{FileFault, number_of}
 use Rattle.runfile.specs.Files.{Contents, programs_in, lead_in_in, main_in}
 use Rattle.runfile.specs.Programs.{operations_of}
 
@@ -73,9 +72,9 @@ contents_text c =
     ++ schedule_line (codes "main") (main_in c.header.threads c.bodies)))
 
 -- the line of a file that is refused
-abbrev pub refusal_line : Fault → List ℕ
+abbrev pub refusal_line : FileFault → List ℕ
 refusal_line f = codes "refused file " ++ (decimal (number_of f.refusal) ++ (codes " " ++ (decimal f.place ++ line_feed)))
 
-abbrev pub listed : Result Contents Fault → List ℕ
+abbrev pub listed : Result Contents FileFault → List ℕ
 listed (Ok c) = contents_text c
 listed (Err f) = refusal_line f

@@ -5,6 +5,7 @@ ghost use Rattle.listing.specs.Listings.{bank_word, contents_text, element_word,
 
 use super::append::{append_bytes, append_decimal};
 use super::lines::{append_program, append_schedule};
+use faults::numbered::Numbered;
 use runfile::element::Element;
 use runfile::fault::Fault;
 use runfile::file::read_run;

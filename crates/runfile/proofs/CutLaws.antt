@@ -2,7 +2,7 @@
 use Rattle.std.proofs.Common.{◌≡◌, ℕ, zero, suc, ◌+◌, ◌<◌, ◌≤◌, List, [], ◌∷◌, ◌++◌, map, length, get_or, take, drop, Ok, Err, sym, refl, ap, ◌∙◌, arith, length-append, length-take, Bor}
 use Rattle.std.specs.List.{flat_map}
 use Rattle.std.proofs.lemmas.List.{get_or-take, get_or-map, take-map, drop-map, drop-take, take-take, length-map}
-use Rattle.runfile.specs.declared.fault.Fault.{Fault}
+use Rattle.runfile.specs.Faults.{FileFault}
 use Rattle.runfile.specs.declared.header.Header.{Header}
 use Rattle.runfile.specs.declared.bodies.Bodies.{Bodies}
 use Rattle.runfile.specs.Chains.{chain}
@@ -52,7 +52,7 @@ joined_parts n (x ∷ bs) h =
     rw (j, k) (simp length-append (omega arith))
 
 module _ (count start : ℕ) (bs : List (List ℕ)) (shape : List ℕ) (first : shape ≡ get_or bs 0 []) where
-  pub shape_fault : (f : Fault) → Err f ≡ headed count shape start → bodies_checked count bs start ≡ Err f
+  pub shape_fault : (f : FileFault) → Err f ≡ headed count shape start → bodies_checked count bs start ≡ Err f
   shape_fault f e = ap (λ r. chain r (λ h. chain (run_checked h (programs_in h.threads bs) (lead_in_in h.threads bs) (main_in h.threads bs) (start + length (get_or bs 0 []))) (λ _. Ok h))) (ap (λ l. headed count l start) (sym first) ∙ sym e)
 
   pub after_shape : (h : Header) (programs : List (List ℕ)) (lead_in main : List ℕ) → Ok h ≡ headed count shape start → programs ≡ programs_in h.threads bs → lead_in ≡ lead_in_in h.threads bs → main ≡ main_in h.threads bs → bodies_checked count bs start ≡ chain (run_checked h programs lead_in main (start + length shape)) (λ _. Ok h)

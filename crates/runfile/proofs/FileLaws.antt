@@ -3,24 +3,24 @@ use Rattle.std.proofs.Common.{◌≡◌, ℕ, ◌+◌, ◌-◌, ◌*◌, ◌≤�
 use Rattle.std.specs.List.{flat_map}
 use Rattle.std.proofs.lemmas.List.{take_rest}
 use Rattle.runfile.specs.declared.bodies.Bodies.{Bodies}
-use Rattle.runfile.specs.declared.fault.Fault.{Fault}
+use Rattle.runfile.specs.Faults.{FileFault}
 use Rattle.runfile.specs.Chains.{sound}
 use Rattle.runfile.specs.Files.{table, divided}
 use Rattle.runfile.specs.Tables.{entries, tabled, bodied, parts}
 use Rattle.runfile.proofs.ChainLaws.{chain_sound, chain_fault, chain_ok}
 use Rattle.runfile.proofs.TableLaws.{entries_length, bodied_joined}
 
-sound_same : (r : Result (Unit {0}) Fault) → r ≡ sound r
+sound_same : (r : Result (Unit {0}) FileFault) → r ≡ sound r
 sound_same (Ok u) = refl
 sound_same (Err f) = refl
 
 module _ (count : ℕ) (file : List ℕ) (n : ℕ) (part : n ≡ 5 * count) where
-  pub divided_fault : (f : Fault) → Err f ≡ tabled count 0 (entries (take n (drop 1 file))) → divided count file ≡ Err f
+  pub divided_fault : (f : FileFault) → Err f ≡ tabled count 0 (entries (take n (drop 1 file))) → divided count file ≡ Err f
   divided_fault f e =
       let e' : Err f ≡ tabled count 0 (entries (table count file)) = rw (sym part) e in
       chain_fault (tabled count 0 (entries (table count file))) f (λ _. bodied (entries (table count file)) (drop (1 + 5 * count) file) (length file)) (e' ∙ sound_same (tabled count 0 (entries (table count file))))
 
-  pub divided_parts : (r : Result Bodies Fault) (u : Unit {0}) (m : ℕ) → m ≡ length file - (1 + 5 * count) → 1 + 5 * count ≤ length file → Ok u ≡ tabled count 0 (entries (take n (drop 1 file))) → parts (length (entries (take n (drop 1 file)))) r ≡ bodied (entries (take n (drop 1 file))) (take m (drop (1 + 5 * count) file)) (length file) → parts count r ≡ divided count file
+  pub divided_parts : (r : Result Bodies FileFault) (u : Unit {0}) (m : ℕ) → m ≡ length file - (1 + 5 * count) → 1 + 5 * count ≤ length file → Ok u ≡ tabled count 0 (entries (take n (drop 1 file))) → parts (length (entries (take n (drop 1 file)))) r ≡ bodied (entries (take n (drop 1 file))) (take m (drop (1 + 5 * count) file)) (length file) → parts count r ≡ divided count file
   divided_parts r u m left room e b =
       let e' : Ok u ≡ tabled count 0 (entries (table count file)) = rw (sym part) e in
       let l : length (table count file) ≡ 5 * count = simp (length-take, length-drop) (omega arith) in

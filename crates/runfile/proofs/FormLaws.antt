@@ -1,24 +1,25 @@
 -- What is accepted has the described form.
-use Rattle.std.proofs.Common.{◌≡◌, ℕ, zero, suc, ◌+◌, ◌-◌, ◌*◌, ◌<◌, ◌≤◌, Bool, true, false, cond, eqb, ltb, List, [], ◌∷◌, ◌++◌, length, get_or, take, drop, Some, Ok, Err, Result, sym, refl, ap, ◌∙◌, subst, inl, inr, arith}
+use Rattle.std.proofs.Common.{◌≡◌, ℕ, zero, suc, ◌+◌, ◌-◌, ◌*◌, ◌<◌, ◌≤◌, Bool, true, false, cond, eqb, ltb, List, [], ◌∷◌, ◌++◌, length, get_or, take, drop, Some, None, Ok, Err, Option, Result, sym, refl, ap, ◌∙◌, subst, inl, inr, arith}
 use Rattle.std.proofs.lemmas.List.{drop-drop, take-append-drop, length-take-le}
 use Rattle.std.proofs.lemmas.Bool.{ltb-false, ltb-true, eqb-true, eq-eqb, ne_eqb, cases_eq}
 use Rattle.std.proofs.lemmas.Bool.Decides.{nat_tests}
 use Rattle.std.specs.List.{flat_map, AllByRecursion}
-use Rattle.runfile.specs.declared.fault.Fault.{Fault}
 use Rattle.runfile.specs.declared.kinds.ElementKind.{ElementKind}
 use Rattle.runfile.specs.declared.kinds.ElementKind.TheVariants.{Number, Letter}
 use Rattle.runfile.specs.declared.kinds.BankKind.{BankKind}
 use Rattle.runfile.specs.declared.kinds.BankKind.TheVariants.{Word, Nibble}
+use Rattle.runfile.specs.declared.kinds.BodyKind.{BodyKind}
+use Rattle.runfile.specs.declared.kinds.BodyKind.TheVariants.{Shape, Program as ProgramBody, LeadIn, Main}
 use Rattle.runfile.specs.declared.operation.Operation.{Operation}
 use Rattle.runfile.specs.declared.operation.Operation.TheVariants.{Push, Pop}
 use Rattle.runfile.specs.declared.table.Entry.{Entry}
 use Rattle.runfile.specs.Chains.{chain}
 use Rattle.runfile.specs.Elements.{Format, element, number_format, letter_format}
-use Rattle.runfile.specs.Faults.{cut, contents, body, tail}
+use Rattle.runfile.specs.Faults.{FileFault, cut, contents, body, tail}
 use Rattle.runfile.specs.Files.{Contents, counted, table, divided, programs_checked, run_checked, bodies_checked, programs_in, lead_in_in, main_in, parsed}
 use Rattle.runfile.specs.Forms.{entries_for, element_code, bank_code, Program, done, pop, push, Programs, Read, Described, Formed}
 use Rattle.runfile.specs.Headers.{headed}
-use Rattle.runfile.specs.Kinds.{element_kind, bank_kind}
+use Rattle.runfile.specs.Kinds.{element_kind, bank_kind, body_kind, body_code, is_kind}
 use Rattle.runfile.specs.Programs.{operation, operations, operations_of, programmed, wide}
 use Rattle.runfile.specs.Schedules.{scheduled}
 use Rattle.runfile.specs.Tables.{entries, expected, right, tabled, bodied}
@@ -46,8 +47,18 @@ test_first : (t s : Bool) → cond t s false ≡ true → t ≡ true
 test_first true s h = refl
 test_first false s h = h
 
-right_kind : (count i : ℕ) (e : Entry) → right count i e ≡ true → e.kind ≡ expected count i
-right_kind count i e h = eqb-true e.kind (expected count i) (test_first (eqb e.kind (expected count i)) _ h)
+coded : (kind : BodyKind) → body_kind (body_code kind) ≡ Some kind
+coded Shape = refl
+coded ProgramBody = refl
+coded LeadIn = refl
+coded Main = refl
+
+same_kind : (o : Option BodyKind) (kind : BodyKind) → is_kind o kind ≡ true → o ≡ Some kind
+same_kind (Some k) kind h = sym (coded k) ∙ ap body_kind (eqb-true (body_code k) (body_code kind) h) ∙ coded kind
+same_kind None kind h = cc
+
+right_kind : (count i : ℕ) (e : Entry) → right count i e ≡ true → e.kind ≡ Some (expected count i)
+right_kind count i e h = same_kind e.kind (expected count i) (test_first (is_kind e.kind (expected count i)) _ h)
 
 -- each entry has the kind of its place and its body's length
 listed_for : (count i : ℕ) (es : List Entry) (bytes : List ℕ) (end : ℕ) (bs : List (List ℕ)) (u : Unit {0}) → tabled count i es ≡ Ok u → bodied es bytes end ≡ Ok bs → es ≡ entries_for count i bs
@@ -61,7 +72,7 @@ listed_for count i (x ∷ es) bytes end bs u t e =
     let rest = listed_for count (i + 1) es (drop x.size bytes) end k.0 u r.1 k.1 in
     let size : length (take x.size bytes) ≡ x.size = length-take-le x.size bytes (ltb-false (length bytes) x.size o.0) in
     let kind = right_kind count i x r.0 in
-    let head : x ≡ record { kind = expected count i; size = length (take x.size bytes) } = rw (size, sym kind) in
+    let head : x ≡ record { kind = Some (expected count i); size = length (take x.size bytes) } = rw (size, sym kind) in
     ap (λ l. x ∷ l) rest
     ∙ ap (λ h. h ∷ entries_for count (i + 1) k.0) head
     ∙ ap (entries_for count i) (ok_same (take x.size bytes ∷ k.0) bs k.2)
@@ -161,9 +172,9 @@ described file c e =
     } in
     subst (Described file) (ap (λ x. record { header = x; bodies = bs }) same ∙ ok_same (record { header = h; bodies = bs }) c d.2) of
 
-formed_by : (file : List ℕ) (r : Result Contents Fault) → ((c : Contents) → r ≡ Ok c → Described file c) → Until (length file) r → Formed file r
+formed_by : (file : List ℕ) (r : Result Contents FileFault) → ((c : Contents) → r ≡ Ok c → Described file c) → Until (length file) r → Formed file r
 formed_by file (Ok c) d u = d c refl
 formed_by file (Err f) d u = u
 
-pub formed : (file : List ℕ) (r : Result Contents Fault) → r ≡ parsed file → Formed file r
+pub formed : (file : List ℕ) (r : Result Contents FileFault) → r ≡ parsed file → Formed file r
 formed file r e = subst (Formed file) (sym e) (formed_by file (parsed file) (described file) (parsed_until file))

@@ -4,14 +4,13 @@ use Rattle.std.proofs.lemmas.Bool.{ltb-false, eqb-true}
 use Rattle.std.proofs.lemmas.Bool.Decides.{nat_tests}
 use Rattle.std.specs.List.{flat_map}
 use Rattle.std.specs.Option.{ok_or}
-use Rattle.runfile.specs.declared.fault.Fault.{Fault}
 use Rattle.runfile.specs.declared.header.Header.{Header}
 use Rattle.runfile.specs.declared.kinds.ElementKind.{ElementKind}
 use Rattle.runfile.specs.declared.kinds.ElementKind.TheVariants.{Number, Letter}
 use Rattle.runfile.specs.declared.table.Entry.{Entry}
 use Rattle.runfile.specs.Chains.{chain}
 use Rattle.runfile.specs.Elements.{Format, number_format, letter_format}
-use Rattle.runfile.specs.Faults.{cut, contents, body, tail}
+use Rattle.runfile.specs.Faults.{FileFault, cut, contents, body, tail}
 use Rattle.runfile.specs.Files.{counted, table, divided, programs_checked}
 use Rattle.runfile.specs.Headers.{headed, slots_right}
 use Rattle.runfile.specs.Kinds.{element_kind, bank_kind}
@@ -59,7 +58,7 @@ divided_count count file bs h e =
     let k = chain_ok (tabled count 0 (entries (table count file))) (λ _. bodied (entries (table count file)) (drop (1 + 5 * count) file) (length file)) bs e in
     bodied_count (entries (table count file)) (drop (1 + 5 * count) file) (length file) bs k.2 ∙ entries_length count (table count file) (length_table count file h)
 
-ok_or_ok : {A : Type 0} (o : Option A) (f : Fault) (a : A) → ok_or o f ≡ Ok a → o ≡ Some a
+ok_or_ok : {A : Type 0} (o : Option A) (f : FileFault) (a : A) → ok_or o f ≡ Ok a → o ≡ Some a
 ok_or_ok (Some x) f a e = ap Some (ok_same x a e)
 ok_or_ok None f a e = absurd (never a f (sym e))
 

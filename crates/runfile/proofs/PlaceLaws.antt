@@ -3,7 +3,6 @@ use Rattle.std.proofs.Common.{◌≡◌, ℕ, zero, suc, ◌+◌, ◌-◌, ◌*�
 use Rattle.std.proofs.lemmas.Bool.{ltb-true}
 use Rattle.std.specs.List.{flat_map}
 use Rattle.std.specs.Option.{ok_or}
-use Rattle.runfile.specs.declared.fault.Fault.{Fault}
 use Rattle.runfile.specs.declared.header.Header.{Header}
 use Rattle.runfile.specs.declared.table.Entry.{Entry}
 use Rattle.runfile.specs.Chains.{chain}
@@ -17,25 +16,25 @@ use Rattle.runfile.proofs.CutLaws.{joined_parts}
 use Rattle.runfile.proofs.FileLaws.{divided_joined}
 use Rattle.runfile.proofs.OutcomeLaws.{counted_ok, length_table, divided_count, headed_ok, programs_end}
 use Rattle.runfile.proofs.TableLaws.{entries_length}
-use Rattle.runfile.specs.Faults.{cut, contents, body, tail}
+use Rattle.runfile.specs.Faults.{FileFault, cut, contents, body, tail}
 use Rattle.runfile.specs.Programs.{operation, operations, programmed, wide}
 use Rattle.runfile.specs.Schedules.{scheduled}
 use Rattle.runfile.specs.Tables.{entries, tabled, bodied, right}
 
 -- a bound on the place of whatever fault there is
-abbrev pub Until : {A : Type 0} → ℕ → Result A Fault → Type 0
+abbrev pub Until : {A : Type 0} → ℕ → Result A FileFault → Type 0
 Until n (Ok a) = Unit {0}
 Until n (Err f) = f.place ≤ n
 
-pub until_chain : {A B : Type 0} (n : ℕ) (r : Result A Fault) (next : A → Result B Fault) → Until n r → ((a : A) → r ≡ Ok a → Until n (next a)) → Until n (chain r next)
+pub until_chain : {A B : Type 0} (n : ℕ) (r : Result A FileFault) (next : A → Result B FileFault) → Until n r → ((a : A) → r ≡ Ok a → Until n (next a)) → Until n (chain r next)
 until_chain n (Ok a) next u k = k a refl
 until_chain n (Err f) next u k = u
 
-pub until_cond : {A : Type 0} (n : ℕ) (t : Bool) (r s : Result A Fault) → (t ≡ true → Until n r) → (t ≡ false → Until n s) → Until n (cond t r s)
+pub until_cond : {A : Type 0} (n : ℕ) (t : Bool) (r s : Result A FileFault) → (t ≡ true → Until n r) → (t ≡ false → Until n s) → Until n (cond t r s)
 until_cond n true r s p q = p refl
 until_cond n false r s p q = q refl
 
-until_more : {A : Type 0} (m n : ℕ) (r : Result A Fault) → m ≤ n → Until m r → Until n r
+until_more : {A : Type 0} (m n : ℕ) (r : Result A FileFault) → m ≤ n → Until m r → Until n r
 until_more m n (Ok a) h u = tt
 until_more m n (Err f) h u = omega arith
 
@@ -73,7 +72,7 @@ module _ {T : Type 0} (form : Format T) where
       until_chain n (operations form 0 p place) _ (operations_until 0 p place n (omega arith))
       (λ os _. programmed_until ps (place + length p) n (omega arith))
 
-ok_or_until : {A : Type 0} (n : ℕ) (o : Option A) (f : Fault) → f.place ≤ n → Until n (ok_or o f)
+ok_or_until : {A : Type 0} (n : ℕ) (o : Option A) (f : FileFault) → f.place ≤ n → Until n (ok_or o f)
 ok_or_until n (Some a) f h = tt
 ok_or_until n None f h = h
 

@@ -4,12 +4,11 @@ use Rattle.runfile.proofs.ChainLaws.{never, chain_ok, cond_ok, cond_not_ok}
 use Rattle.std.proofs.lemmas.Bool.{eq-eqb, ne_eqb, cases_eq}
 use Rattle.std.proofs.lemmas.List.{take_rest, drop-drop}
 use Rattle.std.proofs.lemmas.Slice.{between_to_end}
-use Rattle.runfile.specs.declared.fault.Fault.{Fault}
 use Rattle.runfile.specs.declared.operation.Operation.{Operation}
 use Rattle.runfile.specs.declared.operation.Operation.TheVariants.{Push, Pop}
 use Rattle.runfile.specs.Chains.{chain, sound}
 use Rattle.runfile.specs.Elements.{Format, element}
-use Rattle.runfile.specs.Faults.{body}
+use Rattle.runfile.specs.Faults.{FileFault, body}
 use Rattle.runfile.specs.Programs.{first_then, operation, operations, operations_of, wide}
 
 module _ {T : Type 0} (form : Format T) where
@@ -44,11 +43,11 @@ module _ {T : Type 0} (form : Format T) where
       ap (λ r. chain r (λ p. chain (operations form (wide form.width p - 1) xs (place + 1)) (λ os. Ok (p ∷ os)))) (sym e)
       ∙ ap (λ r. chain r (λ os. Ok (o ∷ os))) (after_first x xs (wide form.width o) place (wide_some o) h)
 
-  pub operations_fault : (xs : List ℕ) (place : ℕ) (f : Fault) → 0 < length xs → Err f ≡ operation form xs place → operations form 0 xs place ≡ Err f
+  pub operations_fault : (xs : List ℕ) (place : ℕ) (f : FileFault) → 0 < length xs → Err f ≡ operation form xs place → operations form 0 xs place ≡ Err f
   operations_fault [] place f some e = absurd (omega arith)
   operations_fault (x ∷ xs) place f some e = ap (λ r. chain r (λ p. chain (operations form (wide form.width p - 1) xs (place + 1)) (λ os. Ok (p ∷ os)))) (sym e)
 
-  sound_in_front : (o : Operation T) (r : Result (List (Operation T)) Fault) → sound (chain r (λ os. Ok (o ∷ os))) ≡ sound r
+  sound_in_front : (o : Operation T) (r : Result (List (Operation T)) FileFault) → sound (chain r (λ os. Ok (o ∷ os))) ≡ sound r
   sound_in_front o (Ok os) = refl
   sound_in_front o (Err f) = refl
 
@@ -74,7 +73,7 @@ module _ {T : Type 0} (form : Format T) where
       ap (λ r. first_then r (λ p. p ∷ operations_of form (wide form.width p - 1) xs)) (sym e)
       ∙ ap (λ l. o ∷ l) (operations_of_skip (wide form.width o - 1) xs (omega arith) ∙ ap (operations_of form 0) (d ∙ sym (take_rest (x ∷ xs) (wide form.width o))))
 
-  pub operations_of_fault : (xs : List ℕ) (f : Fault) → Err f ≡ operation form xs 0 → operations_of form 0 xs ≡ []
+  pub operations_of_fault : (xs : List ℕ) (f : FileFault) → Err f ≡ operation form xs 0 → operations_of form 0 xs ≡ []
   operations_of_fault [] f e = refl
   operations_of_fault (x ∷ xs) f e = ap (λ r. first_then r (λ p. p ∷ operations_of form (wide form.width p - 1) xs)) (sym e)
 

@@ -1,25 +1,43 @@
 -- The table of contents, as the code reads it: entry by entry, and what is left of the table.
-use Rattle.std.proofs.Common.{◌≡◌, ℕ, zero, suc, ◌+◌, ◌-◌, ◌*◌, ◌<◌, ◌≤◌, eqb, ltb, List, [], ◌∷◌, ◌++◌, map, length, get_or, take, drop, set, Ok, Err, Result, sym, refl, ap, ◌∙◌, append_assoc, append-nil, arith, Bor}
-use Rattle.std.proofs.lemmas.List.{take_rest, take_more_set, map-set, length-map, nil_from_length, take-append-drop}
+use Rattle.std.proofs.Common.{◌≡◌, ℕ, zero, suc, ◌+◌, ◌-◌, ◌*◌, ◌<◌, ◌≤◌, eqb, ltb, List, [], ◌∷◌, ◌++◌, map, length, get_or, take, drop, set, Some, None, Ok, Err, Option, Result, sym, refl, ap, ◌∙◌, append_assoc, append-nil, arith, Bor}
+use Rattle.std.proofs.lemmas.List.{take_more_set, map-set, length-map, nil_from_length, take-append-drop}
 use Rattle.std.specs.List.{flat_map}
+use Rattle.std.specs.Option.{ok_or}
+use Rattle.std.specs.Result.{result_ok}
 use Rattle.std.proofs.lemmas.Slice.{between_to_end}
 use Rattle.std.proofs.lemmas.Bool.{le-ltb, eq-eqb, eqb-true}
-use Rattle.runfile.specs.declared.fault.Fault.{Fault}
+use Rattle.runfile.specs.declared.kinds.BodyKind.{BodyKind}
+use Rattle.runfile.specs.declared.kinds.UnknownKind.{UnknownKind}
 use Rattle.runfile.specs.declared.table.Entry.{Entry}
 use Rattle.runfile.specs.Elements.{big_endian}
 use Rattle.runfile.specs.Chains.{chain}
-use Rattle.runfile.specs.Faults.{cut, tail}
+use Rattle.runfile.specs.Kinds.{body_kind}
+use Rattle.runfile.specs.Faults.{FileFault, cut, tail}
 use Rattle.runfile.proofs.ChainLaws.{chain_ok, cond_ok, cond_not_ok, ok_same}
 use Rattle.runfile.specs.Tables.{entries, bodied}
 
-pub entries_split : (xs : List ℕ) → 5 ≤ length xs → entries xs ≡ record { kind = get_or xs 0 0; size = big_endian (get_or xs 1 0) (get_or xs 2 0) (get_or xs 3 0) (get_or xs 4 0) } ∷ entries (take (length xs - 5) (drop 5 xs))
+pub entries_split : (xs : List ℕ) → 5 ≤ length xs → entries xs ≡ record { kind = body_kind (get_or xs 0 0); size = big_endian (get_or xs 1 0) (get_or xs 2 0) (get_or xs 3 0) (get_or xs 4 0) } ∷ entries (take (length xs - 5) (drop 5 xs))
 entries_split [] h = absurd (omega arith)
 entries_split (k ∷ []) h = absurd (omega arith)
 entries_split (k ∷ a ∷ []) h = absurd (omega arith)
 entries_split (k ∷ a ∷ b ∷ []) h = absurd (omega arith)
 entries_split (k ∷ a ∷ b ∷ c ∷ []) h = absurd (omega arith)
 entries_split (k ∷ a ∷ b ∷ c ∷ d ∷ rest) h =
-    ap (λ (t : List ℕ). record { kind = k; size = big_endian a b c d } ∷ entries t) (sym (between_to_end (k ∷ a ∷ b ∷ c ∷ d ∷ rest) 5 _ (omega arith)))
+    ap (λ (t : List ℕ). record { kind = body_kind k; size = big_endian a b c d } ∷ entries t) (sym (between_to_end (k ∷ a ∷ b ∷ c ∷ d ∷ rest) 5 _ (omega arith)))
+
+-- a kind byte, as it is read
+pub kind_read : (o : Option BodyKind) (u : UnknownKind) → result_ok (ok_or o u) ≡ o
+kind_read (Some k) u = refl
+kind_read None u = refl
+
+-- an entry has five bytes
+pub entries_few : (xs : List ℕ) → 5 * length (entries xs) ≤ length xs
+entries_few [] = omega arith
+entries_few (k ∷ []) = omega arith
+entries_few (k ∷ a ∷ []) = omega arith
+entries_few (k ∷ a ∷ b ∷ []) = omega arith
+entries_few (k ∷ a ∷ b ∷ c ∷ []) = omega arith
+entries_few (k ∷ a ∷ b ∷ c ∷ d ∷ rest) = omega (arith, entries_few rest)
 
 pub entries_length : (k : ℕ) (xs : List ℕ) → length xs ≡ 5 * k → length (entries xs) ≡ k
 entries_length zero [] h = refl
@@ -31,21 +49,25 @@ entries_length k (x ∷ a ∷ b ∷ c ∷ []) h = absurd (omega arith)
 entries_length zero (x ∷ a ∷ b ∷ c ∷ d ∷ xs) h = absurd (omega arith)
 entries_length (suc k) (x ∷ a ∷ b ∷ c ∷ d ∷ xs) h = ap suc (entries_length k xs (omega arith))
 
+-- before the first part
+pub cut_none : (r : Result (List (List ℕ)) FileFault) → r ≡ chain r (λ bs. Ok ([] ++ bs))
+cut_none (Ok bs) = refl
+cut_none (Err f) = refl
+
 -- one more part: the parts before, and then those that are cut from what is left
-cut_on : (got more : List (List ℕ)) (part : List ℕ) (r : Result (List (List ℕ)) Fault) → more ≡ got ++ (part ∷ []) → chain (chain r (λ bs. Ok (part ∷ bs))) (λ bs. Ok (got ++ bs)) ≡ chain r (λ bs. Ok (more ++ bs))
+cut_on : (got more : List (List ℕ)) (part : List ℕ) (r : Result (List (List ℕ)) FileFault) → more ≡ got ++ (part ∷ []) → chain (chain r (λ bs. Ok (part ∷ bs))) (λ bs. Ok (got ++ bs)) ≡ chain r (λ bs. Ok (more ++ bs))
 cut_on got more part (Ok bs) e = ap Ok (sym (ap (λ l. l ++ bs) e ∙ append_assoc got (part ∷ []) bs))
 cut_on got more part (Err f) e = refl
 
-module _ (end i : ℕ) (left : List ℕ) (cuts : List (Bor (List ℕ))) (whole : Result (List (List ℕ)) Fault) where
-  pub bodied_more : (part : Bor (List ℕ)) (all es : List Entry) (e : Entry) → all ≡ e ∷ es → e.size ≤ length left → i < length cuts → part.now ≡ take (e.size - 0) left → whole ≡ chain (bodied all left end) (λ bs. Ok (take i (map (λ x. x.now) cuts) ++ bs)) → whole ≡ chain (bodied es (take (length left - e.size) (drop e.size left)) end) (λ bs. Ok (take (i + 1) (map (λ x. x.now) (set cuts i part)) ++ bs))
-  bodied_more part all es e split within room is before =
-      let z : e.size - 0 ≡ e.size = omega arith in
+module _ (end i : ℕ) (left : List ℕ) (cuts : List (Bor (List ℕ))) (whole : Result (List (List ℕ)) FileFault) where
+  pub bodied_more : (part : Bor (List ℕ)) (rest : List ℕ) (all es : List Entry) (e : Entry) → all ≡ e ∷ es → e.size ≤ length left → i < length cuts → part.now ≡ take e.size left → rest ≡ drop e.size left → whole ≡ chain (bodied all left end) (λ bs. Ok (take i (map (λ x. x.now) cuts) ++ bs)) → whole ≡ chain (bodied es rest end) (λ bs. Ok (take (i + 1) (map (λ x. x.now) (set cuts i part)) ++ bs))
+  bodied_more part rest all es e split within room is after before =
       let n : i < length (map (λ x. x.now) cuts) = rw length-map room in
       let w : take (i + 1) (map (λ x. x.now) (set cuts i part)) ≡ take i (map (λ x. x.now) cuts) ++ (take e.size left ∷ []) =
-      (ap (take (i + 1)) (map-set (λ x. x.now) cuts i part) ∙ take_more_set (map (λ x. x.now) cuts) i part.now n ∙ ap (λ p. take i (map (λ x. x.now) cuts) ++ (p ∷ [])) (is ∙ ap (λ k. take k left) z)) in
+      (ap (take (i + 1)) (map-set (λ x. x.now) cuts i part) ∙ take_more_set (map (λ x. x.now) cuts) i part.now n ∙ ap (λ p. take i (map (λ x. x.now) cuts) ++ (p ∷ [])) is) in
       before
       ∙ ap (λ l. chain (bodied l left end) (λ bs. Ok (take i (map (λ x. x.now) cuts) ++ bs))) split
-      ∙ rw (le-ltb (length left) e.size within, take_rest left e.size) (cut_on (take i (map (λ x. x.now) cuts)) (take (i + 1) (map (λ x. x.now) (set cuts i part))) (take e.size left) (bodied es (drop e.size left) end) w)
+      ∙ rw (le-ltb (length left) e.size within, after) (cut_on (take i (map (λ x. x.now) cuts)) (take (i + 1) (map (λ x. x.now) (set cuts i part))) (take e.size left) (bodied es (drop e.size left) end) w)
 
   pub bodied_end : (all : List Entry) → all ≡ [] → length left ≡ 0 → whole ≡ chain (bodied all left end) (λ bs. Ok (take i (map (λ x. x.now) cuts) ++ bs)) → whole ≡ Ok (take i (map (λ x. x.now) cuts))
   bodied_end all none empty before =

@@ -1,11 +1,11 @@
 -- Elements in files: each kind has a width in bytes, a rule for lawful bytes, a reading and a text.
 use Rattle.std.specs.Prelude.{ℕ, ◌+◌, ◌*◌, Bool, true, cond, List, [], ◌++◌, length, take, Ok, Err, codes, decimal, Result, ◌==◌, nat_lt, slice_index}
-use Rattle.runfile.specs.declared.fault.Fault.{Fault}
+use Rattle.runfile.specs.declared.kinds.UnknownKind.{UnknownKind}
 use Rattle.runfile.specs.declared.number.Number.{Number}
 use Rattle.runfile.specs.declared.letter.Letter.{Letter}
 use Rattle.runfile.specs.declared.letter.Tone.{Tone}
 use Rattle.runfile.specs.declared.letter.Tone.TheVariants.{Plain, Urgent}
-use Rattle.runfile.specs.Faults.{body}
+use Rattle.runfile.specs.Faults.{FileFault, body}
 
 -- four bytes as a number, the most significant first
 abbrev pub big_endian : ℕ → ℕ → ℕ → ℕ → ℕ
@@ -19,7 +19,7 @@ pub record Format (T : Type 0) : Type 0 where
 
 -- the element whose bytes stand first in `bytes`, for an operation that begins at `place`:
 -- where bytes are missing or unlawful, the operation's place is the fault's
-abbrev pub element : {T : Type 0} → Format T → List ℕ → ℕ → Result T Fault
+abbrev pub element : {T : Type 0} → Format T → List ℕ → ℕ → Result T FileFault
 element form bytes place =
     cond (nat_lt (length bytes) form.width) (Err (body place))
     (cond (form.lawful (take form.width bytes)) (Ok (form.reading (take form.width bytes))) (Err (body place)))
@@ -39,6 +39,9 @@ number_text n = decimal n.value
 -- a letter: a sender, a tone that is 0 (plain) or 1 (urgent), and four bytes of a serial number
 abbrev pub tone : ℕ → Tone
 tone b = cond (b == 0) Plain Urgent
+
+abbrev pub tone_read : ℕ → Result Tone UnknownKind
+tone_read b = cond (nat_lt b 2) (Ok (tone b)) (Err (record { 0 = b }))
 
 abbrev pub letter_format : Format Letter
 letter_format = record {

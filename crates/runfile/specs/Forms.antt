@@ -1,7 +1,7 @@
 -- What a run file is, in the words of its description: a table, then the bodies that it speaks of, and nothing left over.
-use Rattle.std.specs.Prelude.{◌≡◌, ℕ, ◌+◌, ◌<◌, ◌≤◌, true, List, [], ◌∷◌, ◌++◌, length, Ok, Result, MatchResult, slice_index_or}
+use Rattle.std.specs.Prelude.{◌≡◌, ℕ, ◌+◌, ◌<◌, ◌≤◌, true, List, [], ◌∷◌, ◌++◌, length, Some, Ok, Result, MatchResult, slice_index_or}
 use Rattle.std.specs.List.{flat_map, AllByRecursion}
-use Rattle.runfile.specs.declared.fault.Fault.{Fault}
+use Rattle.runfile.specs.Faults.{FileFault}
 use Rattle.runfile.specs.declared.kinds.ElementKind.{ElementKind}
 use Rattle.runfile.specs.declared.kinds.ElementKind.TheVariants.{Number, Letter}
 use Rattle.runfile.specs.declared.kinds.BankKind.{BankKind}
@@ -15,7 +15,7 @@ use Rattle.runfile.specs.Tables.{entries, expected}
 -- the entries of a table for these bodies: each has the kind of its place and the body's length
 abbrev pub entries_for : ℕ → ℕ → List (List ℕ) → List Entry
 entries_for count i [] = []
-entries_for count i (b ∷ bs) = record { kind = expected count i; size = length b } ∷ entries_for count (i + 1) bs
+entries_for count i (b ∷ bs) = record { kind = Some (expected count i); size = length b } ∷ entries_for count (i + 1) bs
 
 abbrev pub element_code : ElementKind → ℕ
 element_code Number = 1
@@ -60,5 +60,5 @@ pub record Described (file : List ℕ) (c : Contents) : Type 0 where
   pub main : AllByRecursion (λ t. t < c.header.threads) (main_in c.header.threads c.bodies)
 
 -- what is accepted has exactly the described form, and a refusal's place lies within the file's length
-abbrev pub Formed : List ℕ → Result Contents Fault → Type 0
+abbrev pub Formed : List ℕ → Result Contents FileFault → Type 0
 Formed file r = MatchResult r (λ c. Described file c) (λ f. f.place ≤ length file)

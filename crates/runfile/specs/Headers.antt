@@ -1,10 +1,9 @@
 -- The shape body: slots, threads, element kind and bank kind, a byte each; the first wrong byte is the fault.
 use Rattle.std.specs.Prelude.{ℕ, ◌+◌, ◌-◌, Bool, false, cond, List, [], ◌∷◌, Ok, Err, Result, ◌==◌, nat_le}
 use Rattle.std.specs.Option.{ok_or}
-use Rattle.runfile.specs.declared.fault.Fault.{Fault}
 use Rattle.runfile.specs.declared.header.Header.{Header}
 use Rattle.runfile.specs.Chains.{chain}
-use Rattle.runfile.specs.Faults.{body}
+use Rattle.runfile.specs.Faults.{FileFault, body}
 use Rattle.runfile.specs.Kinds.{element_kind, bank_kind}
 
 -- there are 1 to 64 slots
@@ -12,7 +11,7 @@ abbrev pub slots_right : ℕ → Bool
 slots_right slots = cond (nat_le 1 slots) (nat_le slots 64) false
 
 -- the table has an entry for each thread, and three more
-abbrev pub headed : ℕ → List ℕ → ℕ → Result Header Fault
+abbrev pub headed : ℕ → List ℕ → ℕ → Result Header FileFault
 headed count [] place = Err (body place)
 headed count (s ∷ []) place = Err (body place)
 headed count (s ∷ t ∷ []) place = Err (body place)

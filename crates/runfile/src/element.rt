@@ -10,14 +10,12 @@ pub trait Element: Copy {
     // How many bytes an element has in a file.
     const WIDTH: usize;
 
-    // The same number for clauses, with the rule for lawful bytes and what they mean.
+    ghost WIDTH: { ℕ };
+
+    // The width, the rule for lawful bytes, and what they mean.
     ghost format: { Format Self };
 
     ghost printed: { Self → List ℕ };
-
-    // The constant by a call, whose clause ties it to the format.
-    fn byte_count() -> usize
-        ensures { result ≡ format.width };
 
     // The element at the start of `bytes`, of an operation that begins at `place`.
     fn read(bytes: &[u8], place: usize) -> Result<Self, Fault>
@@ -26,6 +24,8 @@ pub trait Element: Copy {
     // What is printed of an element.
     fn text(&self) -> Text
         ensures { text_of result ≡ printed self.now };
+
+    ghost wide: { format.width ≡ WIDTH };
 
     // No element is longer than the longest file.
     ghost narrow: { format.width ≤ 49152 };

@@ -1,68 +1,27 @@
 // Why a file is refused, and at which byte of it.
-ghost use Rattle.std.specs.Prelude.{◌≡◌};
-ghost use Rattle.runfile.specs.Faults.{cut, contents, body, tail, number_of};
+ghost use Rattle.runfile.specs.Faults.{number_of};
+
+use faults::numbered::Numbered;
 
 #[derive(Clone, Copy, PartialEq, Eq, Debug)]
 pub enum FileRefusal {
+    // The file ends too early.
     Cut = 10,
+    // The table of contents is wrong.
     Contents = 11,
+    // A body is wrong.
     Body = 12,
+    // Bytes are left over.
     Tail = 13,
 }
 
-impl FileRefusal {
-    pub fn number(self) -> u8
-        ensures { result ≡ number_of self }
-    {
+impl Numbered for FileRefusal {
+    ghost told = { number_of };
+
+    fn number(self) -> u8 {
         self as u8
     }
 }
 
 // A refusal and its place, an offset into the file.
-#[derive(Clone, Copy, PartialEq, Eq, Debug)]
-pub struct Fault {
-    pub refusal: FileRefusal,
-    pub place: usize,
-}
-
-impl Fault {
-    // The file ends too early.
-    pub(crate) fn cut(place: usize) -> Fault
-        ensures { result ≡ cut place }
-    {
-        Fault {
-            refusal: FileRefusal::Cut,
-            place,
-        }
-    }
-
-    // The table of contents is wrong.
-    pub(crate) fn contents(place: usize) -> Fault
-        ensures { result ≡ contents place }
-    {
-        Fault {
-            refusal: FileRefusal::Contents,
-            place,
-        }
-    }
-
-    // A body is wrong.
-    pub(crate) fn body(place: usize) -> Fault
-        ensures { result ≡ body place }
-    {
-        Fault {
-            refusal: FileRefusal::Body,
-            place,
-        }
-    }
-
-    // Bytes are left over.
-    pub(crate) fn tail(place: usize) -> Fault
-        ensures { result ≡ tail place }
-    {
-        Fault {
-            refusal: FileRefusal::Tail,
-            place,
-        }
-    }
-}
+pub type Fault = faults::fault::Fault<FileRefusal>;

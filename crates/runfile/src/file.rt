@@ -6,7 +6,7 @@ ghost use Rattle.runfile.specs.Forms.{Formed};
 ghost use Rattle.runfile.specs.Tables.{cut_of, parts};
 
 use super::bodies::Bodies;
-use super::fault::Fault;
+use super::fault::{Fault, FileRefusal};
 use super::header::{Header, read_header};
 use super::kinds::{BankKind, ElementKind};
 use super::letter::Letter;
@@ -15,6 +15,7 @@ use super::operation::check_programs;
 use super::runs::RunFile;
 use super::schedule::check_schedule;
 use super::table::{check_table, cut_bodies};
+use faults::numbered::Numbered;
 
 // No lawful file is longer.
 pub const LONGEST: usize = 49152;
@@ -25,17 +26,17 @@ fn read_count(file: &[u8]) -> Result<usize, Fault>
     ensures bounds { IfOk result (λ c. (4 ≤ c) × (c ≤ 67) × (1 + 5 * c ≤ length file.now) × (length file.now ≤ 49152)) }
 {
     if file.len() > LONGEST {
-        return Err(Fault::tail(LONGEST));
+        return Err(FileRefusal::Tail.at(LONGEST));
     }
     let [count, ..] = file else {
-        return Err(Fault::cut(0));
+        return Err(FileRefusal::Cut.at(0));
     };
     let count = *count as usize;
     if count < 4 || count > 67 {
-        return Err(Fault::contents(0));
+        return Err(FileRefusal::Contents.at(0));
     }
     if file.len() < 1 + 5 * count {
-        return Err(Fault::cut(file.len()));
+        return Err(FileRefusal::Cut.at(file.len()));
     }
     Ok(count)
 }

@@ -4,8 +4,9 @@ ghost use Rattle.turns.specs.Shapes.{Few};
 ghost use Rattle.turns.specs.declared.refusal.ShapeRefusal.TheVariants.{BadShape};
 ghost use Rattle.runfile.specs.Headers.{headed};
 
-use super::fault::Fault;
+use super::fault::{Fault, FileRefusal};
 use super::kinds::{BankKind, ElementKind};
+use faults::numbered::Numbered;
 use turns::refusal::ShapeRefusal;
 use turns::shape::Shape;
 
@@ -33,17 +34,17 @@ pub(crate) fn read_header(body: &[u8], count: usize, place: usize) -> Result<Hea
     ensures threads { IfOk result (λ h. h.threads + 3 ≡ count) }
 {
     let [slots, threads, element, bank] = body else {
-        return Err(Fault::body(place));
+        return Err(FileRefusal::Body.at(place));
     };
     let expected = (count - 3) as u8;
     if Shape::new(*slots, expected).is_err() {
-        return Err(Fault::body(place));
+        return Err(FileRefusal::Body.at(place));
     }
     if *threads != expected {
-        return Err(Fault::body(place + 1));
+        return Err(FileRefusal::Body.at(place + 1));
     }
-    let element = ElementKind::from_code(*element).ok_or(Fault::body(place + 2))?;
-    let bank = BankKind::from_code(*bank).ok_or(Fault::body(place + 3))?;
+    let element = ElementKind::try_from(*element).map_err(|_| FileRefusal::Body.at(place + 2))?;
+    let bank = BankKind::try_from(*bank).map_err(|_| FileRefusal::Body.at(place + 3))?;
     Ok(Header {
         slots: *slots,
         threads: *threads,

@@ -1,10 +1,12 @@
 // Elements that are letters: who sent it, in which tone, and its serial number.
 ghost use Rattle.std.specs.Prelude.{◌≡◌};
-ghost use Rattle.runfile.specs.Elements.{letter_format, letter_text, mark};
+ghost use Rattle.runfile.specs.Elements.{letter_format, letter_text, mark, tone_read};
 ghost use Rattle.std.proofs.Common.{rules};
 
 use super::element::Element;
-use super::fault::Fault;
+use super::fault::{Fault, FileRefusal};
+use super::kinds::UnknownKind;
+use faults::numbered::Numbered;
 use text::holder::Text;
 
 #[derive(Clone, Copy, PartialEq, Eq, Debug)]
@@ -32,28 +34,38 @@ impl Tone {
     }
 }
 
+impl TryFrom<u8> for Tone {
+    type Error = UnknownKind;
+
+    ghost try_from_gives = { λ code made. made ≡ tone_read code };
+
+    fn try_from(code: u8) -> Result<Tone, UnknownKind> {
+        match code {
+            0 => Ok(Tone::Plain),
+            1 => Ok(Tone::Urgent),
+            _ => Err(UnknownKind(code)),
+        }
+    }
+}
+
 impl Element for Letter {
     const WIDTH: usize = 6;
+
+    ghost WIDTH = { 6 };
 
     ghost format = { letter_format };
 
     ghost printed = { letter_text };
 
-    ghost narrow = { Prim.search rules };
+    ghost wide = { Prim.search rules };
 
-    fn byte_count() -> usize {
-        Self::WIDTH
-    }
+    ghost narrow = { Prim.search rules };
 
     fn read(bytes: &[u8], place: usize) -> Result<Letter, Fault> {
         let [sender, tone, a, b, c, d, ..] = bytes else {
-            return Err(Fault::body(place));
+            return Err(FileRefusal::Body.at(place));
         };
-        let tone = match *tone {
-            0 => Tone::Plain,
-            1 => Tone::Urgent,
-            _ => return Err(Fault::body(place)),
-        };
+        let tone = Tone::try_from(*tone).map_err(|_| FileRefusal::Body.at(place))?;
         let serial = u32::from_be_bytes([*a, *b, *c, *d]);
         Ok(Letter {
             sender: *sender,

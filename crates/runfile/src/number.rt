@@ -4,7 +4,8 @@ ghost use Rattle.runfile.specs.Elements.{number_format, number_text};
 ghost use Rattle.std.proofs.Common.{rules};
 
 use super::element::Element;
-use super::fault::Fault;
+use super::fault::{Fault, FileRefusal};
+use faults::numbered::Numbered;
 use text::holder::Text;
 
 #[derive(Clone, Copy, PartialEq, Eq, Debug)]
@@ -15,15 +16,15 @@ pub struct Number {
 impl Element for Number {
     const WIDTH: usize = 4;
 
+    ghost WIDTH = { 4 };
+
     ghost format = { number_format };
 
     ghost printed = { number_text };
 
-    ghost narrow = { Prim.search rules };
+    ghost wide = { Prim.search rules };
 
-    fn byte_count() -> usize {
-        Self::WIDTH
-    }
+    ghost narrow = { Prim.search rules };
 
     fn read(bytes: &[u8], place: usize) -> Result<Number, Fault> {
         match bytes {
@@ -31,7 +32,7 @@ impl Element for Number {
                 let value = u32::from_be_bytes([*a, *b, *c, *d]);
                 Ok(Number { value })
             }
-            _ => Err(Fault::body(place)),
+            _ => Err(FileRefusal::Body.at(place)),
         }
     }
 

@@ -5,7 +5,8 @@ ghost use Rattle.runfile.specs.Chains.{sound};
 ghost use Rattle.runfile.specs.Programs.{operation, operations, programmed, wide};
 
 use super::element::Element;
-use super::fault::Fault;
+use super::fault::{Fault, FileRefusal};
+use faults::numbered::Numbered;
 
 #[derive(Clone, Copy, PartialEq, Eq, Debug)]
 pub enum Operation<E> {
@@ -19,7 +20,7 @@ impl<E: Element> Operation<E> {
         ensures { result ≡ wide E.Element.format.width self.now }
     {
         match self {
-            Operation::Push(_) => 1 + E::byte_count(),
+            Operation::Push(_) => 1 + E::WIDTH,
             Operation::Pop => 1,
         }
     }
@@ -36,7 +37,7 @@ pub fn read_operation<E: Element>(program: &[u8], place: usize) -> Result<Operat
             Ok(Operation::Push(element))
         }
         [0x44, ..] => Ok(Operation::Pop),
-        _ => Err(Fault::body(place)),
+        _ => Err(FileRefusal::Body.at(place)),
     }
 }
 

@@ -1,18 +1,25 @@
 // A schedule: one thread number a byte.
-ghost use Rattle.std.specs.Prelude.{◌≡◌, ◌+◌, ◌≤◌, length};
+ghost use Rattle.std.specs.Prelude.{◌≡◌, ◌+◌, ◌≤◌, length, nat_le};
+ghost use Rattle.std.specs.List.{position};
 ghost use Rattle.runfile.specs.Schedules.{scheduled};
 
-use super::fault::Fault;
+use super::fault::{Fault, FileRefusal};
+use faults::numbered::Numbered;
+
+// Where a schedule first names a thread that the run does not have.
+fn first_absent(schedule: &[u8], threads: u8) -> Option<usize>
+    ensures { result ≡ position (λ t. nat_le threads t) schedule.now }
+{
+    schedule.iter().position(|thread| *thread >= threads)
+}
 
 // Refuses a schedule at its first thread that the run does not have.
 pub(crate) fn check_schedule(schedule: &[u8], threads: u8, place: usize) -> Result<(), Fault>
     requires { place + length schedule.now ≤ 49152 }
     ensures { result ≡ scheduled threads schedule.now place }
 {
-    for (index, thread) in schedule.iter().enumerate() {
-        if *thread >= threads {
-            return Err(Fault::body(place + index));
-        }
+    match first_absent(schedule, threads) {
+        Some(index) => Err(FileRefusal::Body.at(place + index)),
+        None => Ok(()),
     }
-    Ok(())
 }

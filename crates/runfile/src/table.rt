@@ -1,42 +1,55 @@
 // The table of contents: an entry a body, of a kind byte and four bytes of the body's length.
 ghost use Rattle.std.specs.Prelude.{◌≡◌, ◌+◌, ◌*◌, ◌^◌, ◌<◌, ◌≤◌, [], ◌∷◌, length, IfOk, MatchOption};
+ghost use Rattle.std.specs.Iterator.{YieldsFirst, item_count};
 ghost use Rattle.runfile.specs.Tables.{bodied, entries, expected, parts, right, tabled};
 
 use super::bodies::Bodies;
-use super::fault::Fault;
+use super::fault::{Fault, FileRefusal};
+use super::kinds::BodyKind;
+use faults::numbered::Numbered;
 
 #[derive(Clone, Copy)]
 pub struct Entry {
-    kind: u8,
+    // None where the kind byte stands for no kind.
+    kind: Option<BodyKind>,
     size: u32,
 }
 
-// The first entry of a table, and the rest of the table.
-fn split_entry(table: &[u8]) -> Option<(Entry, &[u8])>
-    ensures { MatchOption result ((entries table.now ≡ []) × (length table.now < 5)) (λ x. (entries table.now ≡ x.0 ∷ entries x.1.now) × (length table.now ≡ length x.1.now + 5)) }
-{
-    match table {
-        [kind, a, b, c, d, rest @ ..] => {
-            let size = u32::from_be_bytes([*a, *b, *c, *d]);
-            Some((Entry { kind: *kind, size }, rest))
-        }
-        _ => None,
+// The entries of a table, one after another.
+#[derive(Drop)]
+struct Entries<'a>(&'a [u8]);
+
+impl Iterator for Entries<'_> {
+    type Item = Entry;
+
+    ghost next_gives = { YieldsFirst (λ s. entries s.0.now) };
+
+    ghost remaining = { item_count (λ s. entries s.0.now) };
+
+    fn next(&mut self) -> Option<Entry> {
+        let [kind, a, b, c, d, rest @ ..] = self.0 else {
+            return None;
+        };
+        self.0 = rest;
+        let kind = BodyKind::try_from(*kind).ok();
+        let size = u32::from_be_bytes([*a, *b, *c, *d]);
+        Some(Entry { kind, size })
     }
 }
 
 // The kind that an entry has to have: the shape, then the programs, then the two schedules.
-fn expected_kind(index: usize, count: usize) -> u8
+fn expected_kind(index: usize, count: usize) -> BodyKind
     requires { 4 ≤ count }
     ensures { result ≡ expected count index }
 {
     if index == 0 {
-        1
+        BodyKind::Shape
     } else if index < count - 2 {
-        2
+        BodyKind::Program
     } else if index == count - 2 {
-        3
+        BodyKind::LeadIn
     } else {
-        4
+        BodyKind::Main
     }
 }
 
@@ -45,7 +58,7 @@ fn is_right(entry: Entry, index: usize, count: usize) -> bool
     requires { 4 ≤ count }
     ensures { result ≡ right count index entry }
 {
-    entry.kind == expected_kind(index, count) && (index != 0 || entry.size == 4)
+    entry.kind == Some(expected_kind(index, count)) && (index != 0 || entry.size == 4)
 }
 
 // Refuses a table at its first wrong entry.
@@ -53,14 +66,10 @@ pub(crate) fn check_table(table: &[u8], count: usize) -> Result<(), Fault>
     requires { (4 ≤ count) × (length table.now ≤ 335) }
     ensures { result ≡ tabled count 0 (entries table.now) }
 {
-    let mut rest = table;
-    let mut index = 0;
-    while let Some((entry, more)) = split_entry(rest) {
+    for (index, entry) in Entries(table).enumerate() {
         if !is_right(entry, index, count) {
-            return Err(Fault::contents(1 + 5 * index));
+            return Err(FileRefusal::Contents.at(1 + 5 * index));
         }
-        rest = more;
-        index += 1;
     }
     Ok(())
 }
@@ -76,21 +85,15 @@ pub(crate) fn cut_bodies<'a>(
     ensures long { IfOk result (λ b. length b.cuts ≡ 67) }
 {
     let mut cuts = [&bodies[0..0]; 67];
-    let mut rest = table;
     let mut left = bodies;
-    let mut index = 0;
-    while let Some((entry, more)) = split_entry(rest) {
+    for (index, entry) in Entries(table).enumerate() {
         let size = entry.size as usize;
-        if left.len() < size {
-            return Err(Fault::cut(end));
-        }
-        cuts[index] = &left[0..size];
-        left = &left[size..];
-        rest = more;
-        index += 1;
+        let (body, more) = left.split_at_checked(size).ok_or(FileRefusal::Cut.at(end))?;
+        cuts[index] = body;
+        left = more;
     }
     if !left.is_empty() {
-        return Err(Fault::tail(end - left.len()));
+        return Err(FileRefusal::Tail.at(end - left.len()));
     }
     Ok(Bodies { cuts })
 }

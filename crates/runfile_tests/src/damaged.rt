@@ -1,5 +1,6 @@
 // One damaged file for each check and each rule of places.
 use super::files::{LETTERS, NUMBERS};
+use faults::numbered::Numbered;
 use runfile::file::read_run;
 use std::process::Abort;
 use std::test::Fail;

@@ -1,5 +1,5 @@
 use Rattle.std.proofs.Common.{◌≡◌, ◌+◌, ◌*◌, length, Ok, Result, sym, ap, arith, length-drop, rules}
-use Rattle.runfile.specs.declared.fault.Fault.{Fault}
+use Rattle.runfile.specs.Faults.{FileFault}
 use Rattle.runfile.specs.Files.{Contents, contents_of, outcome, parsed}
 use Rattle.runfile.specs.Tables.{cut_of}
 use Rattle.runfile.proofs.FormLaws.{formed}
@@ -27,6 +27,6 @@ returns-in_err-header c =
 
 pub returns : goal.returns
 returns c =
-    let r : Result Contents Fault = Ok (contents_of (record { header = c.in_ok-header.header; bodies = c.in_ok-bodies.bodies })) in
+    let r : Result Contents FileFault = Ok (contents_of (record { header = c.in_ok-header.header; bodies = c.in_ok-bodies.bodies })) in
     let v : r ≡ parsed c.args.file.now = search rules in
     record { value = v; form = formed c.args.file.now r v }

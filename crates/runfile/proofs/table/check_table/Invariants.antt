@@ -1,11 +1,11 @@
-use Rattle.std.proofs.Common.{◌≡◌, ◌+◌, ◌*◌, length}
+use Rattle.std.proofs.Common.{◌≡◌, ◌+◌, ◌*◌, ◌≤◌, length}
 use Rattle.runfile.specs.Tables.{entries, tabled}
 use Rattle.runfile.proofs.table.check_table.Given as goal
 
-abbrev pub invariant-loop-entry : goal.invariant-loop-entry
-invariant-loop-entry l =
-    (tabled l.count 0 (entries l.initial.rest) ≡ tabled l.count l.index (entries l.rest))
-    × (5 * l.index + length l.rest ≡ length l.initial.rest)
-
-abbrev pub decreases-loop-entry : goal.decreases-loop-entry
-decreases-loop-entry l = length l.rest
+abbrev pub invariant-loop-index : goal.invariant-loop-index
+invariant-loop-index l = record {
+  can_next : goal.iterator-loop-index.can_next l.index-iterator;
+  is_finite : goal.iterator-loop-index.is_finite l.index-iterator;
+  left : tabled l.count 0 (entries l.table) ≡ tabled l.count l.index-iterator.count (entries l.index-iterator.iter.0.now);
+  few : 5 * (l.index-iterator.count + length (entries l.index-iterator.iter.0.now)) ≤ length l.table;
+}

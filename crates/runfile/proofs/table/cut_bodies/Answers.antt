@@ -1,29 +1,38 @@
-use Rattle.std.proofs.Common.{◌≡◌, ◌<◌, map, length, take, Ok, sym, refl, ap, ◌∙◌, arith, length-drop, length-set, length-take}
-use Rattle.std.proofs.lemmas.Bool.{eqb-true}
-use Rattle.runfile.specs.Tables.{entries}
-use Rattle.runfile.proofs.TableLaws.{bodied_more, bodied_end}
+use Rattle.std.proofs.Common.{◌≡◌, ◌+◌, ◌∷◌, ◌<◌, length, refl, ap, ◌∙◌, inl, arith, rules, length-set}
+use Rattle.runfile.specs.Tables.{bodied, entries}
+use Rattle.runfile.proofs.TableLaws.{bodied_more, cut_none, entries_few}
 use Rattle.runfile.proofs.table.cut_bodies.Goals as goal
 
-pub loop-entry-preserved : goal.loop-entry-preserved
-loop-entry-preserved c =
-    let s = c.in-Some.ensures in
-    let room : c.loop-entry.index < length c.loop-entry.cuts = omega (arith, s.1, c.loop-entry.invariant.1, c.loop-entry.invariant.4) in
-    let n = ap length s.0 in (
-      bodied_more c.args.end c.loop-entry.index c.loop-entry.left.now c.loop-entry.cuts _ _ (entries c.loop-entry.rest.now) (entries c.in-Some.more.now) c.in-Some.entry s.0 c.if-left-size.false room refl c.loop-entry.invariant.0,
-      omega (arith, s.1, c.loop-entry.invariant.1),
-      omega (arith, n, c.loop-entry.invariant.2),
-      simp (length-take, length-drop) (omega (arith, c.loop-entry.invariant.3)),
-      length-set _ _ _ ∙ c.loop-entry.invariant.4,
-    )
-
-pub returns : goal.returns
-returns c =
-    let s = c.in_default.ensures in
-    let n = ap length s.0 in
-    let z = eqb-true (length c.loop-entry.left.now) 0 (sym c.is_empty.ensures ∙ c.if-not-is_empty.false) in
-    let i : length (entries c.args.table.now) ≡ c.loop-entry.index = omega (arith, n, c.loop-entry.invariant.2) in
+pub loop-index-init : goal.loop-index-init
+loop-index-init c =
+    let f = entries_few c.args.table.now in
+    let s : c.into_iter-index-iterator.result.iter.0.now ≡ c.args.table.now = search rules in
+    let n : c.into_iter-index-iterator.result.count ≡ 0 = search rules in
     record {
-      value = ap (λ k. Ok (take k (map (λ x. x.now) c.loop-entry.cuts))) i
-          ∙ sym (bodied_end c.args.end c.loop-entry.index c.loop-entry.left.now c.loop-entry.cuts _ (entries c.loop-entry.rest.now) s.0 z c.loop-entry.invariant.0);
-      long = c.loop-entry.invariant.4;
+      can_next = (tt, tt, inl (rw (n, s) (omega arith)));
+      is_finite = tt;
+      cut = rw (n, s) (cut_none (bodied (entries c.args.table.now) c.args.bodies.now c.args.end));
+      counted = rw (n, s) (omega arith);
+      few = f;
+      within = omega arith;
+      long = refl;
+    }
+
+pub loop-index-preserved : goal.loop-index-preserved
+loop-index-preserved c =
+    let i = c.loop-index.invariant in
+    let p = rw c.in_ok-body.ensures.ok_part at c.split_at_checked.ensures.cases in
+    let n : c.in-Some.index ≡ c.loop-index.index-iterator.count = search rules in
+    let m : c.next.new.self.count ≡ c.loop-index.index-iterator.count + 1 = search rules in
+    let e : entries c.loop-index.index-iterator.iter.0.now ≡ c.in-Some.entry ∷ entries c.next.new.self.iter.0.now = search rules in
+    let k = ap length e in
+    let room : c.loop-index.index-iterator.count < length c.loop-index.cuts = omega arith in
+    record {
+      can_next = (tt, tt, inl (omega arith));
+      is_finite = tt;
+      cut = rw (m, n) (bodied_more c.args.end c.loop-index.index-iterator.count c.loop-index.left.now c.loop-index.cuts _ _ _ _ _ c.in-Some.entry e p.0 room p.1 p.2 i.cut);
+      counted = omega arith;
+      few = i.few;
+      within = omega arith;
+      long = length-set _ _ _ ∙ i.long;
     }
