@@ -12,14 +12,15 @@ use Rattle.world.specs.declared.cell.Cell.{Cell}
 use Rattle.world.specs.declared.refusal.Refusal.TheVariants.{Misfit, ShortCycle}
 use Rattle.world.specs.declared.table.Table.{Table}
 use Rattle.world.specs.Calls.{empty_cell, new_table}
+use Rattle.report.specs.declared.counts.Counts.{Counts}
 use Rattle.report.specs.Reports.{pieces_of, report_text, reported, text_of}
-use Rattle.world.specs.Queries.{waiting_threads}
 use Rattle.world.specs.Worlds.{World, world}
 use Rattle.host.specs.declared.fault.Fault.{Fault}
-use Rattle.play.specs.declared.fault.Fault.{Fault as RunFault}
+use Rattle.faults.specs.declared.fault.Fault.{Fault as FaultOf}
+use Rattle.world.specs.declared.refusal.Refusal.{Refusal}
 use Rattle.play.specs.Plays.{Played}
 use Rattle.play.specs.Runs.{ran, ran_from}
-use Rattle.host.specs.Tells.{Writes, pieces_in, report_in, text_in, told_end, told_run}
+use Rattle.host.specs.Tells.{Writes, counts_in, pieces_in, report_in, text_in, told_end, told_run}
 
 -- a text that is put at the start of an area stands there
 pub put_first : (area text after : List ℕ) (size : ℕ) → size ≡ length text → after ≡ put area 0 text → take size after ≡ text
@@ -54,19 +55,18 @@ module _ {T : Type 0} (form : Format T) (printed : T → List ℕ) (room cycle :
   told_anyway = by_same (ltb cycle (2 * shape.threads)) (eqb (length cells) shape.slots)
 
 -- a report of what the queries answer is the report of the world
-module _ {T : Type 0} (printed : T → List ℕ) (shape : Shape) (w : World T) (used pushes pops waiting : ℕ)
-    (used_is : used ≡ w.table.used) (pushes_are : pushes ≡ w.table.pushes) (pops_are : pops ≡ w.table.pops) (waiting_are : waiting ≡ waiting_threads w.table) where
+module _ {T : Type 0} (printed : T → List ℕ) (shape : Shape) (w : World T) (used : ℕ) (counts : Counts) (used_is : used ≡ w.table.used) (counts_are : counts ≡ counts_in w) where
   abbrev asked : List (List ℕ)
-  asked = pieces_of printed shape (take used w.entries) pushes pops waiting
+  asked = pieces_of printed shape (take used w.entries) counts
 
   abbrev asked_text : List ℕ
-  asked_text = report_text printed shape (take used w.entries) pushes pops waiting
+  asked_text = report_text printed shape (take used w.entries) counts
 
   asked_is : asked ≡ pieces_in printed shape w
-  asked_is = let z = used_is in let p = pushes_are in let d = pops_are in let v = waiting_are in cc
+  asked_is = let z = used_is in let p = counts_are in cc
 
   pub asked_text_lem : asked_text ≡ text_in printed shape w
-  asked_text_lem = let z = used_is in let p = pushes_are in let d = pops_are in let v = waiting_are in cc
+  asked_text_lem = let z = used_is in let p = counts_are in cc
 
   -- what is told of the run is that text, where the report was written
   module _ (room : ℕ) (p : Played T) (ok : Ok tt ≡ p.0) (same : w ≡ p.1) (size : ℕ) (answer : Ok size ≡ reported room asked) where
@@ -78,7 +78,7 @@ module _ {T : Type 0} (printed : T → List ℕ) (shape : Shape) (w : World T) (
 
     pub told_text : told_run printed shape room p ≡ Ok asked_text
     told_text =
-        ap (λ (r : Result (Unit {0}) RunFault). told_end printed shape room r p.1) (sym ok)
+        ap (λ (r : Result (Unit {0}) (FaultOf Refusal)). told_end printed shape room r p.1) (sym ok)
         ∙ ap (report_in printed shape room) (sym same)
         ∙ by_false _ _ _ (ap (λ xs. ltb room (length (text_of xs))) (sym asked_is) ∙ fits.0)
         ∙ ap (λ (t : List ℕ). Ok t) (sym asked_text_lem)

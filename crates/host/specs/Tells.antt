@@ -8,7 +8,7 @@ use Rattle.turns.specs.Layouts.{nibble_cycle, word_cycle}
 use Rattle.turns.specs.Rows.{cleared}
 use Rattle.history.specs.declared.entry.Entry.{Entry}
 use Rattle.history.specs.declared.entry.Kind.TheVariants.{Push}
-use Rattle.runfile.specs.declared.fault.Fault.{Fault as FileFault}
+use Rattle.runfile.specs.Faults.{FileFault}
 use Rattle.runfile.specs.declared.kinds.BankKind.{BankKind}
 use Rattle.runfile.specs.declared.kinds.BankKind.TheVariants.{Word, Nibble}
 use Rattle.runfile.specs.declared.kinds.ElementKind.{ElementKind}
@@ -18,6 +18,7 @@ use Rattle.runfile.specs.declared.letter.Tone.TheVariants.{Plain}
 use Rattle.runfile.specs.declared.number.Number.{Number as NumberOf}
 use Rattle.runfile.specs.Elements.{Format, letter_format, letter_text, number_format, number_text}
 use Rattle.runfile.specs.Files.{Contents, parsed}
+use Rattle.report.specs.declared.counts.Counts.{Counts}
 use Rattle.report.specs.Reports.{fitting, pieces_of, report_text, text_of}
 use Rattle.world.specs.declared.cell.Cell.{Cell}
 use Rattle.world.specs.declared.cell.Mark.TheVariants.{Empty}
@@ -27,29 +28,35 @@ use Rattle.world.specs.Steps.{cell}
 use Rattle.world.specs.Takes.{entry}
 use Rattle.world.specs.Worlds.{World, entered, world}
 use Rattle.host.specs.declared.fault.Fault.{Fault}
-use Rattle.play.specs.declared.fault.Fault.{Fault as RunFault}
-use Rattle.host.specs.Faults.{of_file, of_machine, of_report, refusal_line}
+use Rattle.host.specs.declared.fault.Fault.TheVariants.{File, Machine, Report}
+use Rattle.faults.specs.declared.fault.Fault.{Fault as FaultOf}
+use Rattle.world.specs.declared.refusal.Refusal.{Refusal}
+use Rattle.host.specs.Faults.{refusal_line}
 use Rattle.play.specs.Plays.{Played}
 use Rattle.play.specs.Runs.{Reached, ran}
 
+-- P, D and W of a world
+abbrev pub counts_in : {T : Type 0} → World T → Counts
+counts_in w = record { pushes = w.table.pushes; pops = w.table.pops; waiting = waiting_threads w.table }
+
 -- the report of a world, in pieces and as one text: the used entries, with P, D and W at the end
 abbrev pub pieces_in : {T : Type 0} → (T → List ℕ) → Shape → World T → List (List ℕ)
-pieces_in printed shape w = pieces_of printed shape (entered w) w.table.pushes w.table.pops (waiting_threads w.table)
+pieces_in printed shape w = pieces_of printed shape (entered w) (counts_in w)
 
 abbrev pub text_in : {T : Type 0} → (T → List ℕ) → Shape → World T → List ℕ
-text_in printed shape w = report_text printed shape (entered w) w.table.pushes w.table.pops (waiting_threads w.table)
+text_in printed shape w = report_text printed shape (entered w) (counts_in w)
 
 -- a report that is longer than the room is refused, at the length of the pieces that fit
 abbrev pub report_in : {T : Type 0} → (T → List ℕ) → Shape → ℕ → World T → Result (List ℕ) Fault
 report_in printed shape room w =
     cond (nat_lt room (length (text_of (pieces_in printed shape w))))
-    (Err (of_report (record { refusal = ShortArea; place = length (text_of (fitting room (pieces_in printed shape w))) })))
+    (Err (Report (record { refusal = ShortArea; place = length (text_of (fitting room (pieces_in printed shape w))) })))
     (Ok (text_in printed shape w))
 
 -- what is told of a run that has ended
-abbrev pub told_end : {T : Type 0} → (T → List ℕ) → Shape → ℕ → Result (Unit {0}) RunFault → World T → Result (List ℕ) Fault
+abbrev pub told_end : {T : Type 0} → (T → List ℕ) → Shape → ℕ → Result (Unit {0}) (FaultOf Refusal) → World T → Result (List ℕ) Fault
 told_end printed shape room (Ok u) w = report_in printed shape room w
-told_end printed shape room (Err f) w = Err (of_machine f)
+told_end printed shape room (Err f) w = Err (Machine f)
 
 abbrev pub told_run : {T : Type 0} → (T → List ℕ) → Shape → ℕ → Played T → Result (List ℕ) Fault
 told_run printed shape room p = told_end printed shape room p.0 p.1
@@ -92,7 +99,7 @@ told_kind Letter room c = told_as letter_format letter_text blank_letter room c
 
 abbrev pub told_file : Result Contents FileFault → ℕ → Result (List ℕ) Fault
 told_file (Ok c) room = told_kind c.header.element room c
-told_file (Err f) room = Err (of_file f)
+told_file (Err f) room = Err (File f)
 
 -- what is told of a file's bytes, to a host with so much room
 abbrev pub told : List ℕ → ℕ → Result (List ℕ) Fault

@@ -1,26 +1,30 @@
 // A run and its report.
-ghost use Rattle.std.specs.Prelude.{◌≡◌, ◌^◌, ◌<◌, length, take, IfOk};
-ghost use Rattle.turns.specs.Shapes.{Few};
+ghost use Rattle.std.specs.Prelude.{length, take, IfOk};
 ghost use Rattle.turns.specs.Rows.{cleared};
 ghost use Rattle.runfile.specs.Files.{contents_of};
 ghost use Rattle.world.specs.Calls.{new_table};
 ghost use Rattle.world.specs.Worlds.{world};
 ghost use Rattle.play.specs.Runs.{ran};
-ghost use Rattle.host.specs.Tells.{Faithful, Writes, cycle_of, shape_of, told_in, told_run};
+ghost use Rattle.host.specs.Buffers.{BuffersFit};
+ghost use Rattle.host.specs.Tells.{Faithful, Writes, cycle_of, shape_of, told_as, told_run};
 
 use super::fault::Fault;
-use history::entry::Entry;
+use history::entry::{Entry, Kind};
 use machine::state::Machine;
 use play::playing::play_run;
+use report::counts::Counts;
 use report::whole::write_report;
 use runfile::element::Element;
 use runfile::kinds::BankKind;
 use runfile::runs::RunFile;
-use turns::bank::Bank;
+use turns::bank::{Bank, SLOTS};
 use turns::nibble_bank::NibbleBank;
 use turns::shape::Shape;
 use turns::word_bank::WordBank;
-use world::cell::Cell;
+use world::cell::{Cell, Mark};
+
+// How many entries the record of a run has.
+const RECORD_LENGTH: usize = 2048;
 
 // Plays a run in these buffers and writes its report to the start of the area.
 fn report_run<B: Bank + Drop, E: Element>(
@@ -36,39 +40,41 @@ fn report_run<B: Bank + Drop, E: Element>(
     ensures faithful { IfOk result (λ size. Faithful E.Element.printed B.Bank.CYCLE shape (take size area.new)) }
 {
     let mut machine = Machine::new(bank);
-    play_run(&mut machine, run, shape, cells, hands, entries)?;
-    let length = write_report(
-        area,
-        &shape,
-        entries,
-        machine.used(),
-        machine.pushes(),
-        machine.pops(),
-        machine.waiting() as usize,
-    )?;
-    Ok(length)
+    play_run(&mut machine, run, shape, cells, hands, entries).map_err(Fault::Machine)?;
+    let counts = Counts {
+        pushes: machine.pushes(),
+        pops: machine.pops(),
+        waiting: machine.waiting() as usize,
+    };
+    write_report(area, &shape, entries, machine.used(), counts).map_err(Fault::Report)
 }
 
-// The same over the file's kind of bank, in the first cells and hands of buffers that are long enough
-// for any shape.
+// The same over the file's kind of bank, in buffers that hold a blank element everywhere before anything is
+// pushed: cells and hands for the file's shape, and a record of fixed length.
 pub(crate) fn report_file<E: Element>(
+    blank: E,
     run: &RunFile,
-    cells: &mut [Cell<E>],
-    hands: &mut [E],
-    entries: &mut [Entry<E>],
     area: &mut [u8],
 ) -> Result<usize, Fault>
-    requires few { Few run.now.header.slots × Few run.now.header.threads }
-    requires cells { length cells.old ≡ 64 }
-    requires hands { length hands.old ≡ 64 }
-    ensures writes { Writes result area.old area.new (told_in E.Element.format E.Element.printed (length area.old) (contents_of run.now) cells.old hands.old entries.old) }
+    requires { BuffersFit E.row }
+    ensures writes { Writes result area.old area.new (told_as E.Element.format E.Element.printed blank (length area.old) (contents_of run.now)) }
     ensures faithful { IfOk result (λ size. Faithful E.Element.printed (cycle_of run.now.header.bank) (shape_of (contents_of run.now)) (take size area.new)) }
 {
-    let Ok(shape) = run.header.shape() else {
-        unreachable()
-    };
-    let cells = &mut cells[0..shape.slots() as usize];
-    let hands = &mut hands[0..shape.threads() as usize];
+    let shape = run.header.shape;
+    let mut cells = [Cell {
+        element: blank,
+        mark: Mark::Empty,
+    }; SLOTS];
+    let mut hands = [blank; SLOTS];
+    let mut entries = [Entry {
+        kind: Kind::Push,
+        thread: 0,
+        ticket: 0,
+        element: blank,
+    }; RECORD_LENGTH];
+    let cells = &mut cells[..shape.slots() as usize];
+    let hands = &mut hands[..shape.threads() as usize];
+    let entries = &mut entries;
     match run.header.bank {
         BankKind::Word => report_run(WordBank::new(), run, shape, cells, hands, entries, area),
         BankKind::Nibble => report_run(NibbleBank::new(), run, shape, cells, hands, entries, area),

@@ -1,7 +1,7 @@
 -- What one schedule entry does with the thread that it names.
 use Rattle.std.specs.Prelude.{ℕ, ◌+◌, cond, List, [], drop, Some, None, Ok, Err, Option, Result, nat_le, slice_index, slice_set}
 use Rattle.std.specs.Option.{unwrap_or}
-use Rattle.runfile.specs.declared.fault.Fault.{Fault}
+use Rattle.runfile.specs.Faults.{FileFault}
 use Rattle.runfile.specs.declared.operation.Operation.{Operation}
 use Rattle.runfile.specs.declared.operation.Operation.TheVariants.{Push, Pop}
 use Rattle.runfile.specs.Elements.{Format}
@@ -22,7 +22,7 @@ accepted (Ok a) = Ok tt
 accepted (Err r) = Err r
 
 -- the operation that was read, if any
-abbrev pub readable : {A : Type 0} → Result A Fault → Option A
+abbrev pub readable : {A : Type 0} → Result A FileFault → Option A
 readable (Ok o) = Some o
 readable (Err f) = None
 

@@ -2,7 +2,6 @@ use Rattle.std.proofs.Common.{length, Err, Result, sym, ap, ◌∙◌}
 use Rattle.std.proofs.lemmas.Result.{err_from_is_err_and}
 use Rattle.runfile.specs.Files.{contents_of}
 use Rattle.world.specs.Worlds.{world}
-use Rattle.play.specs.declared.fault.Fault.{Fault as RunFault}
 use Rattle.play.specs.Runs.{ran}
 use Rattle.host.specs.Tells.{told_end}
 use Rattle.host.proofs.Telling.{asked_text_lem, none_made, put_first, refused_writes, size_within, told_anyway, told_text}
