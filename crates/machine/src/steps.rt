@@ -25,7 +25,8 @@ fn past_wait(kind: Kind, ticket: Ticket) -> Phase
 
 impl<B: Bank> Machine<B> {
     // One step of a thread: the thread's phase and the bank's answer together say which, and the
-    // phase is replaced in place. A refused step alters nothing.
+    // phase is replaced in place. A refused step alters nothing. The match on both, over the one row
+    // that is lent, is a form that the project asks for.
     pub fn step<T: Copy>(
         &mut self,
         thread: u8,

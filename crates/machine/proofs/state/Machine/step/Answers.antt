@@ -1,3 +1,4 @@
+use Rattle.std.proofs.lemmas.List.{set-get_or}
 use Rattle.std.proofs.Common.{◌≡◌, ◌-◌, length, subst, rules}
 use Rattle.world.specs.declared.phase.Phase.TheVariants.{Taking}
 use Rattle.world.specs.Worlds.{world}
@@ -19,6 +20,9 @@ returns-in-Taking-default g c =
     let lent = lent_back m.table i in
     let s = took g.B.Bank.CYCLE w i kind a in
     record { answer = cc }
+
+pub returns-in-Waiting-false : goal.returns-in-Waiting-false
+returns-in-Waiting-false g c = search (rules, set-get_or)
 
 pub returns-in-Storing-default : goal.returns-in-Storing-default
 returns-in-Storing-default g c = search (rules, at_read)
