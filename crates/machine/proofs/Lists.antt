@@ -1,9 +1,8 @@
 -- Lists: a read of an element, and the recursions over threads in the words of the library.
-use Rattle.std.proofs.Common.{◌≡◌, ℕ, zero, suc, ◌+◌, ◌<◌, ◌≤◌, Bool, true, false, cond, ◌&&◌, List, [], ◌∷◌, ◌++◌, Option, Some, map, length, get_or, take, drop, refl, sym, ap, arith}
+use Rattle.std.proofs.Common.{◌≡◌, ℕ, zero, suc, ◌+◌, ◌<◌, Bool, true, false, cond, ◌&&◌, List, [], ◌∷◌, Option, Some, length, get_or, refl, sym, ap, arith}
 use Rattle.std.specs.List.{count_by, list_all, position, position_from}
 use Rattle.std.specs.Option.{unwrap_or}
 use Rattle.std.proofs.lemmas.Iterator.Adapters.{position_from-zero}
-use Rattle.std.proofs.lemmas.List.{take_all, drop_all, append-nil}
 use Rattle.std.proofs.lemmas.List.Recursion.{is_count_by, same_from_clauses}
 use Rattle.world.specs.declared.phase.Phase.{Phase}
 use Rattle.world.specs.Queries.{all_rest, count_waiting, is_waiting, rests}
@@ -37,7 +36,3 @@ lowest_from ticket i (p ∷ ps) = let e = lowest_from ticket (i + 1) ps in let f
 
 pub lowest_found : (ticket : ℕ) (ps : List Phase) → lowest_waiting ticket 0 ps ≡ unwrap_or (position (awaits_pop ticket) ps) 0
 lowest_found ticket ps = rw (position_from-zero (awaits_pop ticket) ps) (lowest_from ticket 0 ps)
-
--- a map in place, when the loop is over
-pub mapped_all : {A : Type 0} (f : A → A) (xs : List A) (i : ℕ) → length xs ≤ i → map f (take i xs) ++ drop i xs ≡ map f xs
-mapped_all f xs i h = rw (take_all i xs h, drop_all i xs h) (append-nil (map f xs))

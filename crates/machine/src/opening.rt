@@ -25,7 +25,8 @@ fn new_table(shape: Shape) -> Table
     }
 }
 
-// All cells are marked empty, and their elements stay.
+// All cells are marked empty, and their elements stay. In a loop, since a proof learns nothing of
+// what `for_each` leaves behind the borrow.
 fn empty_cells<T: Copy>(cells: &mut [Cell<T>])
     ensures { cells.new ≡ map empty_cell cells.old }
 {

@@ -30,7 +30,9 @@ impl<B: Bank> Machine<B> {
         self.bank.holds(slot, reduced::<B>(turn_of(kind, round)))
     }
 
-    // Whether a thread in this phase may go on, with so many free entries in the record.
+    // Whether a thread in this phase may go on, with so many free entries in the record. The match over
+    // phases, guarded by the limit, the free entries and the bank's test, is a form that the project
+    // asks for.
     pub(crate) fn admits(&self, phase: Phase, free: usize) -> Result<bool, Refusal>
         ensures value { result ≡ admission B.Bank.CYCLE (B.Bank.row self.now.bank) self.now.table free phase }
         ensures ready { OnOk result (Ready self.now.table free phase) }

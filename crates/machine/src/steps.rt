@@ -1,6 +1,6 @@
 // The step table.
-ghost use Rattle.std.specs.Prelude.{◌≡◌, ◌<◌, length};
-ghost use Rattle.world.specs.Steps.{emptied_cells, past_wait, read_hands, stepped, stored_cells};
+ghost use Rattle.std.specs.Prelude.{◌≡◌};
+ghost use Rattle.world.specs.Steps.{past_wait, stepped};
 ghost use Rattle.world.specs.Worlds.{world};
 
 use super::state::Machine;
@@ -23,38 +23,10 @@ fn past_wait(kind: Kind, ticket: Ticket) -> Phase
     }
 }
 
-// The hand goes to the cell, which is marked full.
-fn store<T: Copy>(cells: &mut [Cell<T>], slot: usize, hands: &[T], thread: usize)
-    requires slot { slot < length cells.old }
-    requires thread { thread < length hands.now }
-    ensures { cells.new ≡ stored_cells cells.old slot thread hands.now }
-{
-    cells[slot] = Cell {
-        element: hands[thread],
-        mark: Mark::Full,
-    };
-}
-
-// The cell's element goes to the hand, with either mark.
-fn read<T: Copy>(cells: &[Cell<T>], slot: usize, hands: &mut [T], thread: usize)
-    requires slot { slot < length cells.now }
-    requires thread { thread < length hands.old }
-    ensures { hands.new ≡ read_hands cells.now slot thread hands.old }
-{
-    hands[thread] = cells[slot].element;
-}
-
-// The cell is marked empty, and its element stays.
-fn empty<T: Copy>(cells: &mut [Cell<T>], slot: usize)
-    requires { slot < length cells.old }
-    ensures { cells.new ≡ emptied_cells cells.old slot }
-{
-    cells[slot].mark = Mark::Empty;
-}
-
 impl<B: Bank> Machine<B> {
     // One step of a thread: the thread's phase and the bank's answer together say which, and the
-    // phase is replaced in place. A refused step alters nothing.
+    // phase is replaced in place. A refused step alters nothing. The match on both, over the one row
+    // that is lent, is a form that the project asks for.
     pub fn step<T: Copy>(
         &mut self,
         thread: u8,
@@ -85,19 +57,22 @@ impl<B: Bank> Machine<B> {
             }
             (Phase::Storing(ticket), _) => {
                 let (slot, _) = shape.split(ticket);
-                store(cells, slot, hands, i);
+                cells[slot] = Cell {
+                    element: hands[i],
+                    mark: Mark::Full,
+                };
                 *row = Phase::Completing(Kind::Push, ticket);
                 Ok((Step::Stored, ticket))
             }
             (Phase::Reading(ticket), _) => {
                 let (slot, _) = shape.split(ticket);
-                read(cells, slot, hands, i);
+                hands[i] = cells[slot].element;
                 *row = Phase::Emptying(ticket);
                 Ok((Step::Read, ticket))
             }
             (Phase::Emptying(ticket), _) => {
                 let (slot, _) = shape.split(ticket);
-                empty(cells, slot);
+                cells[slot].mark = Mark::Empty;
                 *row = Phase::Completing(Kind::Pop, ticket);
                 Ok((Step::Emptied, ticket))
             }

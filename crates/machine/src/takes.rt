@@ -53,7 +53,8 @@ fn early_popper(table: &Table) -> u8
 }
 
 // Enters the push that takes now, with this element. Where the pop of its ticket took before, that
-// is entered directly behind.
+// is entered directly behind. Pushes and pops enter apart, since what they write has nothing in
+// common.
 fn enter_push<T: Copy>(table: &Table, thread: u8, element: T, entries: &mut [Entry<T>])
     requires room { table.now.used + push_writes table.now ≤ length entries.old }
     ensures { entries.new ≡ push_entered table.now thread entries.old element }

@@ -80,12 +80,7 @@ fn phases<B: Bank>(machine: &Machine<B>) -> [Phase; 4] {
 }
 
 // The call is refused, and queries, phases, cells, hands and record are as before.
-fn refused<B: Bank>(
-    rt: &impl Abort,
-    machine: &mut Machine<B>,
-    case: Case,
-    buffers: &mut Buffers,
-) {
+fn refused<B: Bank>(rt: &impl Abort, machine: &mut Machine<B>, case: Case, buffers: &mut Buffers) {
     let Case(line, lent, refusal) = case;
     let before = (asked(machine), phases(machine), *buffers);
     assert_eq!(rt;

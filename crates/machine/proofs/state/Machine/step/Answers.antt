@@ -1,7 +1,9 @@
+use Rattle.std.proofs.lemmas.List.{set-get_or}
 use Rattle.std.proofs.Common.{◌≡◌, ◌-◌, length, subst, rules}
 use Rattle.world.specs.declared.phase.Phase.TheVariants.{Taking}
 use Rattle.world.specs.Worlds.{world}
 use Rattle.machine.specs.Admissions.{Ready}
+use Rattle.machine.proofs.Lists.{at_read}
 use Rattle.machine.proofs.Taking.{Admitted, lent_back, took}
 use Rattle.machine.proofs.state.Machine.step.Goals as goal
 
@@ -13,16 +15,20 @@ returns-in-Taking-default g c =
     let w = world (g.B.Bank.row m.bank) m.table c.args.cells.now c.args.hands.now c.args.entries.now in
     let free = length w.entries - m.table.used in
     let ready : Ready m.table free (Taking kind) = subst (Ready m.table free) c.in-Taking-default.is-0 c.in_ok-came.ensures.ready in
-    let a : Admitted w i kind = record {
-      within = search rules;
-      cells = search rules;
-      hands = search rules;
-      used = search rules;
-      phase = search rules;
-      unspent = ready.0;
-      room = ready.1;
-    } in
+    let a : Admitted w i kind = search rules in
     let same : c.in_ok-i.i ≡ i = search rules in
     let lent = lent_back m.table i in
     let s = took g.B.Bank.CYCLE w i kind a in
     record { answer = cc }
+
+pub returns-in-Waiting-false : goal.returns-in-Waiting-false
+returns-in-Waiting-false g c = search (rules, set-get_or)
+
+pub returns-in-Storing-default : goal.returns-in-Storing-default
+returns-in-Storing-default g c = search (rules, at_read)
+
+pub returns-in-Reading-default : goal.returns-in-Reading-default
+returns-in-Reading-default g c = search (rules, at_read)
+
+pub returns-in-Emptying-default : goal.returns-in-Emptying-default
+returns-in-Emptying-default g c = search (rules, at_read)
