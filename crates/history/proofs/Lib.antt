@@ -1,3 +1,4 @@
+pub mod Finding
 pub mod Ahead
 pub mod Replaying
 pub mod Searching

@@ -9,10 +9,9 @@ use turns::ticket::Ticket;
 pub fn first_push<E: Copy>(entries: &[Entry<E>], used: usize, ticket: Ticket) -> Option<E>
     ensures { result ≡ first_push (take used entries.now) ticket }
 {
-    for entry in entries.iter().take(used) {
-        if entry.kind == Kind::Push && entry.ticket == ticket {
-            return Some(entry.element);
-        }
-    }
-    None
+    entries
+        .iter()
+        .take(used)
+        .find(|entry| entry.kind == Kind::Push && entry.ticket == ticket)
+        .map(|entry| entry.element)
 }

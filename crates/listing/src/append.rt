@@ -15,6 +15,6 @@ pub(crate) fn append_decimal(out: &mut Vec<u8>, n: u64) -> Result<(), AllocError
 {
     let mut text = Text::new();
     // At most 20 digits, so the text has room.
-    let _ = text.push_decimal(n);
+    let _ = text.push(n);
     append_bytes(out, text.as_bytes())
 }

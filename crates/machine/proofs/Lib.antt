@@ -1,3 +1,2 @@
-mod Collecting
 mod Lists
 mod Taking

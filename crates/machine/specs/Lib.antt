@@ -1,2 +1,3 @@
 pub mod Admissions
 pub mod Begins
+pub mod Rows

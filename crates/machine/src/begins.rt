@@ -13,13 +13,11 @@ use world::refusal::Refusal;
 fn begin(row: &mut Phase, kind: Kind) -> Result<(), Refusal>
     ensures { (result, row.new) ≡ begun row.old kind }
 {
-    match *row {
-        Phase::Idle => {
-            *row = Phase::Taking(kind);
-            Ok(())
-        }
-        _ => Err(Refusal::Busy),
+    if *row != Phase::Idle {
+        return Err(Refusal::Busy);
     }
+    *row = Phase::Taking(kind);
+    Ok(())
 }
 
 impl<B: Bank> Machine<B> {
@@ -33,14 +31,7 @@ impl<B: Bank> Machine<B> {
         ensures bank { self.new.bank ≡ self.old.bank }
         ensures answer { (result, self.new.table, hands.new) ≡ push_begun self.old.table thread element hands.old }
     {
-        let count = self.table.shape.threads();
-        if thread >= count {
-            return Err(Refusal::Stranger);
-        }
-        if hands.len() != count as usize {
-            return Err(Refusal::Misfit);
-        }
-        let i = thread as usize;
+        let i = self.hand(thread, hands)?;
         begin(&mut self.table.threads[i], Kind::Push)?;
         hands[i] = element;
         Ok(())
@@ -51,9 +42,7 @@ impl<B: Bank> Machine<B> {
         ensures bank { self.new.bank ≡ self.old.bank }
         ensures answer { (result, self.new.table) ≡ pop_begun self.old.table thread }
     {
-        if thread >= self.table.shape.threads() {
-            return Err(Refusal::Stranger);
-        }
-        begin(&mut self.table.threads[thread as usize], Kind::Pop)
+        let i = self.row(thread)?;
+        begin(&mut self.table.threads[i], Kind::Pop)
     }
 }

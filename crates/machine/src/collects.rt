@@ -19,21 +19,12 @@ impl<B: Bank> Machine<B> {
         ensures bank { self.new.bank ≡ self.old.bank }
         ensures answer { (result, self.new.table) ≡ collected self.old.table thread hands.now }
     {
-        let count = self.table.shape.threads();
-        if thread >= count {
-            return Err(Refusal::Stranger);
-        }
-        if hands.len() != count as usize {
-            return Err(Refusal::Misfit);
-        }
-        let i = thread as usize;
+        let i = self.hand(thread, hands)?;
         let row = &mut self.table.threads[i];
-        match *row {
-            Phase::Done(kind, ticket) => {
-                *row = Phase::Idle;
-                Ok((kind, ticket, hands[i]))
-            }
-            _ => Err(Refusal::Unfinished),
-        }
+        let Phase::Done(kind, ticket) = *row else {
+            return Err(Refusal::Unfinished);
+        };
+        *row = Phase::Idle;
+        Ok((kind, ticket, hands[i]))
     }
 }

@@ -43,12 +43,9 @@ impl<B: Bank> Machine<B> {
         ensures threads { result.table.shape.threads ≡ 1 }
     {
         bank.clear();
-        let Ok(shape) = Shape::new(1, 1) else {
-            unreachable()
-        };
         Machine {
             bank,
-            table: new_table(shape),
+            table: new_table(Shape::new(1, 1).unwrap()),
         }
     }
 
@@ -56,10 +53,10 @@ impl<B: Bank> Machine<B> {
     // says of every moment that the record is the true history. Refused when the bank's cycle is below twice the threads, then
     // when there are not as many cells as slots.
     pub fn open<T: Copy>(&mut self, shape: Shape, cells: &mut [Cell<T>]) -> Result<(), Refusal>
-        ensures answer { (result, B.Bank.row self.new.bank, self.new.table, cells.new) ≡ opened B.Bank.cycle (B.Bank.row self.old.bank) self.old.table cells.old shape }
-        ensures law { OnOk result (Law B.Bank.cycle (B.Bank.row self.new.bank) self.new.table cells.new) }
+        ensures answer { (result, B.Bank.row self.new.bank, self.new.table, cells.new) ≡ opened B.Bank.CYCLE (B.Bank.row self.old.bank) self.old.table cells.old shape }
+        ensures law { OnOk result (Law B.Bank.CYCLE (B.Bank.row self.new.bank) self.new.table cells.new) }
     {
-        if B::cycle_length() < 2 * shape.threads() as u32 {
+        if B::CYCLE < 2 * shape.threads() as u32 {
             return Err(Refusal::ShortCycle);
         }
         if cells.len() != shape.slots() as usize {

@@ -24,7 +24,7 @@ fn turn_of(kind: Kind, round: Ticket) -> Turn
 impl<B: Bank> Machine<B> {
     // Whether a ticket's turn has come, as the bank answers it.
     pub(crate) fn turn_came(&self, kind: Kind, ticket: Ticket) -> bool
-        ensures { result ≡ turn_came B.Bank.cycle (B.Bank.row self.now.bank) self.now.table.shape.slots kind ticket }
+        ensures { result ≡ turn_came B.Bank.CYCLE (B.Bank.row self.now.bank) self.now.table.shape.slots kind ticket }
     {
         let (slot, round) = self.table.shape.split(ticket);
         self.bank.holds(slot, reduced::<B>(turn_of(kind, round)))
@@ -32,7 +32,7 @@ impl<B: Bank> Machine<B> {
 
     // Whether a thread in this phase may go on, with so many free entries in the record.
     pub(crate) fn admits(&self, phase: Phase, free: usize) -> Result<bool, Refusal>
-        ensures value { result ≡ admission B.Bank.cycle (B.Bank.row self.now.bank) self.now.table free phase }
+        ensures value { result ≡ admission B.Bank.CYCLE (B.Bank.row self.now.bank) self.now.table free phase }
         ensures ready { OnOk result (Ready self.now.table free phase) }
     {
         let table = &self.table;

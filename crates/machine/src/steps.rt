@@ -62,19 +62,13 @@ impl<B: Bank> Machine<B> {
         hands: &mut [T],
         entries: &mut [Entry<T>],
     ) -> Result<(Step, Ticket), Refusal>
-        ensures answer { (result, world (B.Bank.row self.new.bank) self.new.table cells.new hands.new entries.new) ≡ stepped B.Bank.cycle (world (B.Bank.row self.old.bank) self.old.table cells.old hands.old entries.old) thread }
+        ensures answer { (result, world (B.Bank.row self.new.bank) self.new.table cells.new hands.new entries.new) ≡ stepped B.Bank.CYCLE (world (B.Bank.row self.old.bank) self.old.table cells.old hands.old entries.old) thread }
     {
         let shape = self.table.shape;
-        if thread >= shape.threads() {
-            return Err(Refusal::Stranger);
-        }
-        if cells.len() != shape.slots() as usize
-            || hands.len() != shape.threads() as usize
-            || entries.len() < self.table.used
-        {
+        let i = self.hand(thread, hands)?;
+        if cells.len() != shape.slots() as usize || entries.len() < self.table.used {
             return Err(Refusal::Misfit);
         }
-        let i = thread as usize;
         let free = entries.len() - self.table.used;
         let came = self.admits(self.table.threads[i], free)?;
         let row = &mut self.table.threads[i];

@@ -1,7 +1,7 @@
 // Takes: the ticket that a thread gets, and the entries that its take writes.
-ghost use Rattle.std.specs.Prelude.{◌≡◌, ◌+◌, ◌<◌, ◌≤◌, length, slice_set};
+ghost use Rattle.std.specs.Prelude.{◌≡◌, ◌+◌, ◌<◌, ◌≤◌, length, position};
 ghost use Rattle.history.specs.declared.entry.Kind.TheVariants.{Push, Pop};
-ghost use Rattle.world.specs.Takes.{awaits_pop, count_of, early_popper, lowest_waiting, pop_entered, pop_writes, push_entered, push_writes, record_after, table_after, ticket_limit, writes_of};
+ghost use Rattle.world.specs.Takes.{awaits_pop, count_of, early_popper, pop_entered, pop_writes, push_entered, push_writes, record_after, table_after, ticket_limit, writes_of};
 
 use history::entry::{Entry, Kind};
 use history::pushes::first_push;
@@ -34,108 +34,62 @@ pub(crate) fn writes_of(table: &Table, kind: Kind) -> usize
     }
 }
 
-// Whether a thread in this phase is at the wait with this pop ticket.
-fn awaits_pop(phase: Phase, ticket: Ticket) -> bool
-    ensures { result ≡ awaits_pop ticket phase }
+// The first of these threads that is at the wait with this pop ticket, if one is.
+fn waiting_place(threads: &[Phase], ticket: Ticket) -> Option<usize>
+    ensures { result ≡ position (awaits_pop ticket) threads.now }
 {
-    match phase {
-        Phase::Waiting(Kind::Pop, own) => own == ticket,
-        _ => false,
-    }
+    threads
+        .iter()
+        .position(|phase| *phase == Phase::Waiting(Kind::Pop, ticket))
 }
 
-// The lowest thread at the wait with this pop ticket, or 0 if none is.
-fn lowest_waiting(threads: &[Phase], ticket: Ticket) -> u8
-    requires { length threads.now ≤ 64 }
-    ensures { result ≡ lowest_waiting ticket 0 threads.now }
-{
-    for (i, phase) in threads.iter().enumerate() {
-        if awaits_pop(*phase, ticket) {
-            return i as u8;
-        }
-    }
-    0
-}
-
-// The thread of the pop that is entered behind the push that takes now.
+// The thread of the pop that is entered behind the push that takes now, or 0 where none waits with
+// its ticket, which no run comes to.
 fn early_popper(table: &Table) -> u8
-    requires { length table.now.threads ≡ 64 }
     ensures { result ≡ early_popper table.now }
 {
     let count = table.shape.threads() as usize;
-    lowest_waiting(&table.threads[0..count], table.pushes)
+    waiting_place(&table.threads[..count], table.pushes).unwrap_or(0) as u8
 }
 
-// Two entries stand behind one another, from this place on.
-fn enter_both<T: Copy>(entries: &mut [Entry<T>], place: usize, first: Entry<T>, second: Entry<T>)
-    requires { place + 1 < length entries.old }
-    ensures { entries.new ≡ slice_set (slice_set entries.old place first) (place + 1) second }
+// Enters the push that takes now, with this element. Where the pop of its ticket took before, that
+// is entered directly behind.
+fn enter_push<T: Copy>(table: &Table, thread: u8, element: T, entries: &mut [Entry<T>])
+    requires room { table.now.used + push_writes table.now ≤ length entries.old }
+    ensures { entries.new ≡ push_entered table.now thread entries.old element }
 {
-    entries[place] = first;
-    entries[place + 1] = second;
-}
-
-// A thread with this element in its hand takes a push ticket. Where the pop of the ticket took
-// before, it is entered directly behind.
-fn take_push<T: Copy>(table: &mut Table, thread: u8, hand: T, entries: &mut [Entry<T>]) -> Ticket
-    requires long { length table.old.threads ≡ 64 }
-    requires within { thread < 64 }
-    requires unspent { table.old.pushes < ticket_limit }
-    requires room { table.old.used + push_writes table.old ≤ length entries.old }
-    ensures ticket { result ≡ table.old.pushes }
-    ensures table { table.new ≡ table_after Push table.old thread }
-    ensures entries { entries.new ≡ push_entered table.old thread entries.old hand }
-{
-    let ticket = table.pushes;
-    let used = table.used;
     let push = Entry {
         kind: Kind::Push,
         thread,
-        ticket,
-        element: hand,
+        ticket: table.pushes,
+        element,
     };
-    if ticket < table.pops {
-        let pop = Entry {
+    entries[table.used] = push;
+    if table.pushes < table.pops {
+        entries[table.used + 1] = Entry {
             kind: Kind::Pop,
             thread: early_popper(table),
             ..push
         };
-        enter_both(entries, used, push, pop);
-        table.used = used + 2;
-    } else {
-        entries[used] = push;
-        table.used = used + 1;
     }
-    table.pushes = ticket + 1;
-    table.threads[thread as usize] = Phase::Waiting(Kind::Push, ticket);
-    ticket
 }
 
-// A thread with this element in its hand takes a pop ticket. It is entered only where the push of
-// the ticket took before, with that push's element.
-fn take_pop<T: Copy>(table: &mut Table, thread: u8, hand: T, entries: &mut [Entry<T>]) -> Ticket
-    requires within { thread < 64 }
-    requires unspent { table.old.pops < ticket_limit }
-    requires room { table.old.used + pop_writes table.old ≤ length entries.old }
-    ensures ticket { result ≡ table.old.pops }
-    ensures table { table.new ≡ table_after Pop table.old thread }
-    ensures entries { entries.new ≡ pop_entered table.old thread entries.old hand }
+// Enters the pop that takes now, with this element in its hand, only where the push of its ticket
+// took before: with that push's element, if the record still has it.
+fn enter_pop<T: Copy>(table: &Table, thread: u8, hand: T, entries: &mut [Entry<T>])
+    requires room { table.now.used + pop_writes table.now ≤ length entries.old }
+    ensures { entries.new ≡ pop_entered table.now thread entries.old hand }
 {
     let ticket = table.pops;
-    let used = table.used;
     if ticket < table.pushes {
-        let element = first_push(entries, used, ticket).unwrap_or(hand);
-        entries[used] = Entry {
+        let element = first_push(entries, table.used, ticket).unwrap_or(hand);
+        entries[table.used] = Entry {
             kind: Kind::Pop,
             thread,
             ticket,
             element,
         };
-        table.used = used + 1;
     }
-    table.pops = ticket + 1;
-    table.threads[thread as usize] = Phase::Waiting(Kind::Pop, ticket);
-    ticket
 }
 
 // A thread takes a ticket of this kind, with what is in its hand.
@@ -146,7 +100,6 @@ pub(crate) fn take<T: Copy>(
     hands: &[T],
     entries: &mut [Entry<T>],
 ) -> Ticket
-    requires long { length table.old.threads ≡ 64 }
     requires within { thread < 64 }
     requires hand { thread < length hands.now }
     requires unspent { count_of kind table.old < ticket_limit }
@@ -155,9 +108,20 @@ pub(crate) fn take<T: Copy>(
     ensures table { table.new ≡ table_after kind table.old thread }
     ensures entries { entries.new ≡ record_after kind table.old thread hands.now entries.old }
 {
+    let ticket = count_of(table, kind);
+    let writes = writes_of(table, kind);
     let hand = hands[thread as usize];
     match kind {
-        Kind::Push => take_push(table, thread, hand, entries),
-        Kind::Pop => take_pop(table, thread, hand, entries),
+        Kind::Push => {
+            enter_push(table, thread, hand, entries);
+            table.pushes = ticket + 1;
+        }
+        Kind::Pop => {
+            enter_pop(table, thread, hand, entries);
+            table.pops = ticket + 1;
+        }
     }
+    table.used += writes;
+    table.threads[thread as usize] = Phase::Waiting(kind, ticket);
+    ticket
 }

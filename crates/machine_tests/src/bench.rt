@@ -5,7 +5,6 @@ use turns::bank::Bank;
 use turns::shape::Shape;
 use turns::ticket::Ticket;
 use world::cell::{Cell, Mark};
-use world::phase::Phase;
 use world::refusal::Refusal;
 use world::step::Step;
 
@@ -43,7 +42,15 @@ pub const HANDS: usize = 5;
 
 pub const ENTRIES: usize = 6;
 
-#[derive(Clone, Copy)]
+// An entry of no operation.
+pub const NO_ENTRY: Entry<u32> = Entry {
+    kind: Kind::Pop,
+    thread: 60,
+    ticket: 50,
+    element: 70,
+};
+
+#[derive(Clone, Copy, PartialEq, Eq, Debug)]
 pub struct Buffers {
     pub cells: [Cell<u32>; CELLS],
     pub hands: [u32; HANDS],
@@ -63,56 +70,15 @@ impl Buffers {
                 mark: Mark::Full,
             }; CELLS],
             hands: [80; HANDS],
-            entries: [Entry {
-                kind: Kind::Pop,
-                thread: 60,
-                ticket: 50,
-                element: 70,
-            }; ENTRIES],
+            entries: [NO_ENTRY; ENTRIES],
         }
     }
 
     pub(crate) fn full_cells(&self) -> usize {
-        let mut full = 0usize;
-        for cell in &self.cells {
-            if cell.mark == Mark::Full {
-                full = full.wrapping_add(1);
-            }
-        }
-        full
-    }
-
-    // All three buffers, whole, are those of another.
-    pub(crate) fn same(&self, other: &Buffers) -> bool {
-        for (a, b) in self.cells.iter().zip(other.cells.iter()) {
-            if a.element != b.element || a.mark != b.mark {
-                return false;
-            }
-        }
-        for (a, b) in self.entries.iter().zip(other.entries.iter()) {
-            if !same_entry(a, b) {
-                return false;
-            }
-        }
-        self.hands == other.hands
-    }
-}
-
-pub(crate) fn same_entry(a: &Entry<u32>, b: &Entry<u32>) -> bool {
-    a.kind == b.kind && a.thread == b.thread && a.ticket == b.ticket && a.element == b.element
-}
-
-pub(crate) fn same_phase(a: Phase, b: Phase) -> bool {
-    match (a, b) {
-        (Phase::Idle, Phase::Idle) => true,
-        (Phase::Taking(k), Phase::Taking(l)) => k == l,
-        (Phase::Waiting(k, t), Phase::Waiting(l, u)) => k == l && t == u,
-        (Phase::Storing(t), Phase::Storing(u)) => t == u,
-        (Phase::Reading(t), Phase::Reading(u)) => t == u,
-        (Phase::Emptying(t), Phase::Emptying(u)) => t == u,
-        (Phase::Completing(k, t), Phase::Completing(l, u)) => k == l && t == u,
-        (Phase::Done(k, t), Phase::Done(l, u)) => k == l && t == u,
-        _ => false,
+        self.cells
+            .iter()
+            .filter(|cell| cell.mark == Mark::Full)
+            .count()
     }
 }
 
@@ -127,11 +93,30 @@ pub(crate) fn asked<B: Bank>(machine: &Machine<B>) -> Told {
     }
 }
 
-fn done(answer: Result<(), Refusal>) -> Answer {
-    match answer {
-        Ok(()) => Answer::Done,
-        Err(refusal) => Answer::Refused(refusal),
+fn answered<B: Bank>(
+    machine: &mut Machine<B>,
+    call: Call,
+    cells: &mut [Cell<u32>],
+    hands: &mut [u32],
+    entries: &mut [Entry<u32>],
+) -> Result<Answer, Refusal> {
+    match call {
+        Call::Open(slots, threads) => {
+            let shape = Shape::new(slots, threads).map_err(|_| Refusal::BadShape)?;
+            machine.open(shape, cells)?;
+        }
+        Call::Push(thread, element) => machine.begin_push(thread, element, hands)?,
+        Call::Pop(thread) => machine.begin_pop(thread)?,
+        Call::Step(thread) => {
+            let (step, ticket) = machine.step(thread, cells, hands, entries)?;
+            return Ok(Answer::Stepped(step, ticket));
+        }
+        Call::Collect(thread) => {
+            let (kind, ticket, element) = machine.collect(thread, hands)?;
+            return Ok(Answer::Collected(kind, ticket, element));
+        }
     }
+    Ok(Answer::Done)
 }
 
 // Makes a call with the buffers as they are lent.
@@ -142,22 +127,7 @@ pub(crate) fn make<B: Bank>(
     hands: &mut [u32],
     entries: &mut [Entry<u32>],
 ) -> Answer {
-    match call {
-        Call::Open(slots, threads) => match Shape::new(slots, threads) {
-            Ok(shape) => done(machine.open(shape, cells)),
-            Err(_) => Answer::Refused(Refusal::BadShape),
-        },
-        Call::Push(thread, element) => done(machine.begin_push(thread, element, hands)),
-        Call::Pop(thread) => done(machine.begin_pop(thread)),
-        Call::Step(thread) => match machine.step(thread, cells, hands, entries) {
-            Ok((step, ticket)) => Answer::Stepped(step, ticket),
-            Err(refusal) => Answer::Refused(refusal),
-        },
-        Call::Collect(thread) => match machine.collect(thread, hands) {
-            Ok((kind, ticket, element)) => Answer::Collected(kind, ticket, element),
-            Err(refusal) => Answer::Refused(refusal),
-        },
-    }
+    answered(machine, call, cells, hands, entries).unwrap_or_else(|refusal| Answer::Refused(refusal))
 }
 
 // Makes a call with the first so many of each buffer.

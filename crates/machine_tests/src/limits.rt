@@ -1,5 +1,5 @@
 // The last ticket, the last free entry, and machines at rest.
-use super::bench::{Answer, Buffers, Call, Lent, asked, call_lent, make, same_entry};
+use super::bench::{Answer, Buffers, Call, Lent, NO_ENTRY, asked, call_lent, make};
 use history::entry::{Entry, Kind};
 use machine::state::Machine;
 use std::process::Abort;
@@ -96,7 +96,7 @@ fn holds_rounds(rt: &impl Abort, entries: &[Entry<u32>]) {
             ticket,
             element: ticket as u32,
         };
-        assert!(rt; same_entry(entry, &expected));
+        assert_eq!(rt; *entry, expected);
     }
 }
 
@@ -117,26 +117,14 @@ fn spends_all<B: Bank + Drop>(rt: &impl Abort, bank: B, entries: &mut [Entry<u32
 
 #[test]
 fn word_bank_spends_all(rt: HostRuntime) -> Result<(), Fail> {
-    let none = Entry {
-        kind: Kind::Pop,
-        thread: 60,
-        ticket: 50,
-        element: 70,
-    };
-    let mut entries = vec![in rt.alloc(); none; ALL_ENTRIES]?;
+    let mut entries = vec![in rt.alloc(); NO_ENTRY; ALL_ENTRIES]?;
     spends_all(&rt, WordBank::new(), &mut entries);
     Ok(())
 }
 
 #[test]
 fn nibble_bank_spends_all(rt: HostRuntime) -> Result<(), Fail> {
-    let none = Entry {
-        kind: Kind::Pop,
-        thread: 60,
-        ticket: 50,
-        element: 70,
-    };
-    let mut entries = vec![in rt.alloc(); none; ALL_ENTRIES]?;
+    let mut entries = vec![in rt.alloc(); NO_ENTRY; ALL_ENTRIES]?;
     spends_all(&rt, NibbleBank::new(), &mut entries);
     Ok(())
 }

@@ -1,9 +1,8 @@
 // Each refusal, in a machine in which something of every kind is going on: queries and buffers are
 // compared before and after.
-use super::bench::{Answer, Buffers, Call, Lent, asked, call_lent, same_phase};
+use super::bench::{Answer, Buffers, Call, Lent, asked, call_lent};
 use machine::state::Machine;
 use std::process::Abort;
-use std::test::Fail;
 use turns::bank::Bank;
 use turns::nibble_bank::NibbleBank;
 use turns::word_bank::WordBank;
@@ -75,12 +74,9 @@ const SHORT: [Case; 3] = [
     Case(Call::Open(2, 64), FIT, Refusal::ShortCycle),
 ];
 
-// A thread's phase, idle where the thread is a stranger.
-fn phase_of<B: Bank>(machine: &Machine<B>, thread: u8) -> Phase {
-    match machine.phase(thread) {
-        Ok(phase) => phase,
-        Err(_) => Phase::Idle,
-    }
+// The phases of the first four threads, idle where a thread is a stranger.
+fn phases<B: Bank>(machine: &Machine<B>) -> [Phase; 4] {
+    [0, 1, 2, 3].map(|thread| machine.phase(thread).unwrap_or(Phase::Idle))
 }
 
 // The call is refused, and queries, phases, cells, hands and record are as before.
@@ -89,69 +85,45 @@ fn refused<B: Bank>(
     machine: &mut Machine<B>,
     case: Case,
     buffers: &mut Buffers,
-) -> Result<(), Fail> {
+) {
     let Case(line, lent, refusal) = case;
-    let before = *buffers;
-    let told = asked(machine);
-    let phases = [
-        phase_of(machine, 0),
-        phase_of(machine, 1),
-        phase_of(machine, 2),
-        phase_of(machine, 3),
-    ];
+    let before = (asked(machine), phases(machine), *buffers);
     assert_eq!(rt;
         call_lent(machine, line, lent, buffers),
         Answer::Refused(refusal)
     );
-    assert!(rt; buffers.same(&before));
-    assert_eq!(rt; asked(machine), told);
-    for (thread, phase) in phases.iter().enumerate() {
-        assert!(rt; same_phase(phase_of(machine, thread as u8), *phase));
-    }
-    match machine.phase(told.shape.1) {
-        Ok(_) => Err(Fail::new("a stranger has a phase")),
-        Err(refusal) => {
-            assert_eq!(rt; refusal, Refusal::Stranger);
-            Ok(())
-        },
-    }
+    assert_eq!(rt; (asked(machine), phases(machine), *buffers), before);
+    let (told, _, _) = before;
+    assert_eq!(rt; machine.phase(told.shape.1), Err(Refusal::Stranger));
 }
 
 // Brings a machine to where the cases begin.
-fn set_busy<B: Bank>(
-    rt: &impl Abort,
-    machine: &mut Machine<B>,
-    buffers: &mut Buffers,
-) -> Result<(), Fail> {
+fn set_busy<B: Bank>(rt: &impl Abort, machine: &mut Machine<B>, buffers: &mut Buffers) {
     for line in BUSY {
-        match call_lent(machine, line, FIT, buffers) {
-            Answer::Refused(_) => return Err(Fail::new("refused on the way")),
-            _ => {}
-        }
+        let answer = call_lent(machine, line, FIT, buffers);
+        assert!(rt; !matches!(answer, Answer::Refused(_)), "refused on the way");
     }
     assert_eq!(rt; machine.used(), 2);
-    Ok(())
 }
 
-fn all_refused<B: Bank + Drop>(rt: &impl Abort, bank: B, cases: &[Case]) -> Result<(), Fail> {
+fn all_refused<B: Bank + Drop>(rt: &impl Abort, bank: B, cases: &[Case]) {
     let mut machine = Machine::new(bank);
     let mut buffers = Buffers::new();
-    set_busy(rt, &mut machine, &mut buffers)?;
+    set_busy(rt, &mut machine, &mut buffers);
     for case in cases {
-        refused(rt, &mut machine, *case, &mut buffers)?;
+        refused(rt, &mut machine, *case, &mut buffers);
     }
-    Ok(())
 }
 
 #[test]
-fn word_bank_refusals(rt: HostRuntime) -> Result<(), Fail> {
-    all_refused(&rt, WordBank::new(), &CASES)
+fn word_bank_refusals(rt: HostRuntime) {
+    all_refused(&rt, WordBank::new(), &CASES);
 }
 
 #[test]
-fn nibble_bank_refusals(rt: HostRuntime) -> Result<(), Fail> {
-    all_refused(&rt, NibbleBank::new(), &CASES)?;
-    all_refused(&rt, NibbleBank::new(), &SHORT)
+fn nibble_bank_refusals(rt: HostRuntime) {
+    all_refused(&rt, NibbleBank::new(), &CASES);
+    all_refused(&rt, NibbleBank::new(), &SHORT);
 }
 
 // A cycle of twice the threads is enough: eight for the nibble bank, all 64 for the word bank.

@@ -1,5 +1,5 @@
 // Scripts, call by call: what a step answers, when an entry is made and when a cell is full.
-use super::bench::{Answer, Buffers, Call, Lent, call_lent, same_entry};
+use super::bench::{Answer, Buffers, Call, Lent, call_lent};
 use history::entry::{Entry, Kind};
 use machine::state::Machine;
 use std::process::Abort;
@@ -100,14 +100,16 @@ fn play<B: Bank>(
 
 // The record begins with these entries: kind, thread, ticket and element.
 fn begins_with(rt: &impl Abort, buffers: &Buffers, expected: &[(Kind, u8, Ticket, u32)]) {
-    for (entry, (kind, thread, ticket, element)) in buffers.entries.iter().zip(expected.iter()) {
-        let other = Entry {
-            kind: *kind,
-            thread: *thread,
-            ticket: *ticket,
-            element: *element,
-        };
-        assert!(rt; same_entry(entry, &other));
+    for (entry, (kind, thread, ticket, element)) in buffers.entries.iter().zip(expected) {
+        assert_eq!(rt;
+            *entry,
+            Entry {
+                kind: *kind,
+                thread: *thread,
+                ticket: *ticket,
+                element: *element,
+            }
+        );
     }
 }
 

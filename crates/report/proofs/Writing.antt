@@ -14,29 +14,30 @@ use Rattle.report.specs.Lines.{heading_line, line_for, closing_line}
 use Rattle.report.specs.Pieces.{overlong, left_at}
 use Rattle.report.specs.Reports.{report_text, pieces_of, text_of, fitting, reported}
 use Rattle.report.specs.States.{headed, accepted, longer, closed}
-use Rattle.report.specs.declared.fault.Fault.{Fault}
+use Rattle.report.specs.declared.counts.Counts.{Counts}
+use Rattle.faults.specs.declared.fault.Fault.{Fault}
 use Rattle.report.specs.declared.states.NewReport.{NewReport}
 use Rattle.report.specs.declared.states.OpenReport.{OpenReport}
 use Rattle.report.specs.declared.states.ClosedReport.{ClosedReport}
 use Rattle.report.specs.declared.states.Refused.{Refused}
 
 -- what is to be written behind the heading
-abbrev pub body_of : {T : Type 0} → (T → List ℕ) → List (Entry T) → ℕ → ℕ → ℕ → List (List ℕ)
-body_of text entries pushes pops waiting = map (line_for text) entries ++ closing_line pushes pops waiting ∷ []
+abbrev pub body_of : {T : Type 0} → (T → List ℕ) → List (Entry T) → Counts → List (List ℕ)
+body_of text entries counts = map (line_for text) entries ++ closing_line counts.pushes counts.pops counts.waiting ∷ []
 
 -- short area, with so much written
-abbrev pub short : ℕ → Fault
+abbrev pub short : ℕ → Fault AreaRefusal
 short at = record { refusal = ShortArea; place = at }
 
 -- the answer and the area at the end, with `at` bytes written before
-abbrev pub run : List ℕ → ℕ → List (List ℕ) → Result ℕ Fault × List ℕ
+abbrev pub run : List ℕ → ℕ → List (List ℕ) → Result ℕ (Fault AreaRefusal) × List ℕ
 run xs at [] = (Ok at, xs)
 run xs at (p ∷ ps) = cond (overlong xs at p) (Err (short at), xs) (run (put xs at p) (at + length p) ps)
 
 abbrev fits : List ℕ → ℕ → List (List ℕ) → List ℕ
 fits xs at ps = text_of (fitting (length xs - at) ps)
 
-abbrev outcome : List ℕ → ℕ → List (List ℕ) → Result ℕ Fault
+abbrev outcome : List ℕ → ℕ → List (List ℕ) → Result ℕ (Fault AreaRefusal)
 outcome xs at ps = cond (ltb (length xs) (at + length (text_of ps))) (Err (short (at + length (fits xs at ps)))) (Ok (at + length (text_of ps)))
 
 -- a run writes the pieces that fit, and is refused exactly when they are not all
@@ -117,7 +118,7 @@ fitting_all (p ∷ ps) room h =
     rw f (ap (λ qs. p ∷ qs) (fitting_all ps (room - length p) (omega arith)))
 
 -- an answered length is that of the whole text, which stands in the area then
-finished : (xs ys whole : List ℕ) (q : Result ℕ Fault) (ps : List (List ℕ)) → text_of ps ≡ whole → q ≡ reported (length xs) ps → ys ≡ put xs 0 (text_of (fitting (length xs) ps)) → IfOk q (λ size. (size ≡ length whole) × (ys ≡ put xs 0 whole))
+finished : (xs ys whole : List ℕ) (q : Result ℕ (Fault AreaRefusal)) (ps : List (List ℕ)) → text_of ps ≡ whole → q ≡ reported (length xs) ps → ys ≡ put xs 0 (text_of (fitting (length xs) ps)) → IfOk q (λ size. (size ≡ length whole) × (ys ≡ put xs 0 whole))
 finished xs ys whole q ps w a b =
     elim (cases_lt (length xs) (length (text_of ps))) [
       | inl o ↦
@@ -130,23 +131,23 @@ finished xs ys whole q ps w a b =
     ]
 
 -- a whole report
-module _ {T : Type 0} (text : T → List ℕ) (shape : Shape) (entries : List (Entry T)) (pushes pops waiting : ℕ) where
+module _ {T : Type 0} (text : T → List ℕ) (shape : Shape) (entries : List (Entry T)) (counts : Counts) where
   abbrev heading : List ℕ
   heading = heading_line shape.slots shape.threads
 
   abbrev body : List (List ℕ)
-  body = body_of text entries pushes pops waiting
+  body = body_of text entries counts
 
   abbrev pieces : List (List ℕ)
-  pieces = pieces_of text shape entries pushes pops waiting
+  pieces = pieces_of text shape entries counts
 
   abbrev whole : List ℕ
-  whole = report_text text shape entries pushes pops waiting
+  whole = report_text text shape entries counts
 
   -- its pieces are its text
   pieces_text : text_of pieces ≡ whole
   unfolding pieces_of report_text
-  pieces_text = ap (λ t. heading ++ t) (text_body text entries (closing_line pushes pops waiting))
+  pieces_text = ap (λ t. heading ++ t) (text_body text entries (closing_line counts.pushes counts.pops counts.waiting))
 
   -- from a new report, its heading first
   module _ (n : NewReport) (xs ys : List ℕ) (z : n.written ≡ 0) (a : ys ≡ left_at xs n.written heading) where
@@ -163,7 +164,7 @@ module _ {T : Type 0} (text : T → List ℕ) (shape : Shape) (entries : List (E
     not_begun f e = started ∙ headed_err n xs ys heading body a f e
 
   -- what a run from the start ends with, where the code answers q
-  pub ended : (xs ys : List ℕ) (q r : Result ℕ Fault) → q ≡ r → run xs 0 pieces ≡ (r, ys) → (q ≡ reported (length xs) pieces) × (ys ≡ put xs 0 (text_of (fitting (length xs) pieces))) × IfOk q (λ size. (size ≡ length whole) × (ys ≡ put xs 0 whole))
+  pub ended : (xs ys : List ℕ) (q r : Result ℕ (Fault AreaRefusal)) → q ≡ r → run xs 0 pieces ≡ (r, ys) → (q ≡ reported (length xs) pieces) × (ys ≡ put xs 0 (text_of (fitting (length xs) pieces))) × IfOk q (λ size. (size ≡ length whole) × (ys ≡ put xs 0 whole))
   ended xs ys q r qr h =
       let e = sym h ∙ run_whole xs pieces in
       let a : q ≡ reported (length xs) pieces = qr ∙ ap (λ w. w.0) e in
@@ -171,8 +172,8 @@ module _ {T : Type 0} (text : T → List ℕ) (shape : Shape) (entries : List (E
       (a, b, finished xs ys whole q pieces pieces_text a b)
 
 -- one entry of what is still to be written
-pub body_more : {T : Type 0} (text : T → List ℕ) (es xs : List (Entry T)) (x : Entry T) (pushes pops waiting : ℕ) → es ≡ x ∷ xs → body_of text es pushes pops waiting ≡ line_for text x ∷ body_of text xs pushes pops waiting
-body_more text es xs x pushes pops waiting e = ap (λ ys. body_of text ys pushes pops waiting) e
+pub body_more : {T : Type 0} (text : T → List ℕ) (es xs : List (Entry T)) (x : Entry T) (counts : Counts) → es ≡ x ∷ xs → body_of text es counts ≡ line_for text x ∷ body_of text xs counts
+body_more text es xs x counts e = ap (λ ys. body_of text ys counts) e
 
-pub body_none : {T : Type 0} (text : T → List ℕ) (es : List (Entry T)) (pushes pops waiting : ℕ) → es ≡ [] → body_of text es pushes pops waiting ≡ closing_line pushes pops waiting ∷ []
-body_none text es pushes pops waiting e = ap (λ ys. body_of text ys pushes pops waiting) e
+pub body_none : {T : Type 0} (text : T → List ℕ) (es : List (Entry T)) (counts : Counts) → es ≡ [] → body_of text es counts ≡ closing_line counts.pushes counts.pops counts.waiting ∷ []
+body_none text es counts e = ap (λ ys. body_of text ys counts) e

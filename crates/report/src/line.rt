@@ -3,8 +3,8 @@ ghost use Rattle.std.specs.Prelude.{◌≡◌, map, length};
 ghost use Rattle.text.specs.Areas.{wrote, left};
 ghost use Rattle.report.specs.Lines.{bytes_of, end_of, line_of};
 
+use text::piece::Piece;
 use text::refusal::AreaRefusal;
-use text::write::{decimal_width, write_bytes, write_decimal};
 
 // A part of a line: a word as it stands, or a number in decimal.
 #[derive(Clone, Copy)]
@@ -13,23 +13,21 @@ pub enum Part<'a> {
     Number(u64),
 }
 
-// How many bytes a part has.
-fn part_width(part: &Part<'_>) -> usize
-    ensures { result ≡ length (bytes_of part.now) }
-{
-    match part {
-        Part::Word(word) => word.len(),
-        Part::Number(n) => decimal_width(*n),
-    }
-}
+impl<'a> Piece for Part<'a> {
+    ghost bytes = { bytes_of };
 
-fn write_part(area: &mut [u8], part: &Part<'_>) -> Result<usize, AreaRefusal>
-    ensures answer { result ≡ wrote area.old (bytes_of part.now) }
-    ensures after { area.new ≡ left area.old (bytes_of part.now) }
-{
-    match part {
-        Part::Word(word) => write_bytes(area, word),
-        Part::Number(n) => write_decimal(area, *n),
+    fn width(self) -> usize {
+        match self {
+            Part::Word(word) => word.width(),
+            Part::Number(n) => n.width(),
+        }
+    }
+
+    fn write(self, area: &mut [u8]) -> Result<usize, AreaRefusal> {
+        match self {
+            Part::Word(word) => word.write(area),
+            Part::Number(n) => n.write(area),
+        }
     }
 }
 
@@ -52,13 +50,13 @@ pub fn write_line(area: &mut [u8], parts: &[Part<'_>]) -> Result<usize, AreaRefu
     let [part, rest @ ..] = parts else {
         return Ok(0);
     };
-    let width = part_width(part);
+    let width = part.width();
     if area.len() <= width {
         return Err(AreaRefusal::ShortArea);
     }
     let more = write_line(&mut area[width + 1..], rest)?;
     area[width] = part_end(rest);
     // Its place is exactly as long as the part, so it is not refused.
-    let _ = write_part(&mut area[0..width], part);
+    let _ = part.write(&mut area[..width]);
     Ok(width + 1 + more)
 }

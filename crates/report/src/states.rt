@@ -1,17 +1,17 @@
 // A report is new, then open, then closed. None of the three can be copied or dropped, so that
 // the heading comes first and nothing comes behind the closing line.
-ghost use Rattle.std.specs.Prelude.{◌≡◌, ℕ, [], ◌∷◌, decimal};
-ghost use Rattle.report.specs.Lines.{closing_line, heading_line, line_for, line_of, word_of};
+ghost use Rattle.std.specs.Prelude.{◌≡◌, ℕ};
+ghost use Rattle.report.specs.Lines.{closing_line, heading_line, line_for, word_of};
 ghost use Rattle.report.specs.Pieces.{left_at, wrote_at};
 ghost use Rattle.report.specs.States.{accepted, closed, headed, longer};
 
+use super::counts::Counts;
 use super::line::Part;
 use super::piece::write_piece;
 use history::entry::{Entry, Kind};
 use runfile::element::Element;
 use text::refusal::AreaRefusal;
 use turns::shape::Shape;
-use turns::ticket::Ticket;
 
 // A new report accepts the heading. Every report holds how much of the area is written.
 pub struct NewReport {
@@ -71,27 +71,6 @@ fn word(kind: Kind) -> &'static [u8]
     }
 }
 
-// An entry's line; one lifetime holds for both words.
-fn write_entry<'a>(
-    area: &mut [u8],
-    written: usize,
-    word: &'a [u8],
-    thread: u8,
-    ticket: Ticket,
-    text: &'a [u8],
-) -> Result<usize, AreaRefusal>
-    ensures answer { result ≡ wrote_at area.old written (line_of (word.now ∷ decimal thread ∷ decimal ticket ∷ text.now ∷ [])) }
-    ensures after { area.new ≡ left_at area.old written (line_of (word.now ∷ decimal thread ∷ decimal ticket ∷ text.now ∷ [])) }
-{
-    let parts = [
-        Part::Word(word),
-        Part::Number(thread as u64),
-        Part::Number(ticket as u64),
-        Part::Word(text),
-    ];
-    write_piece(area, written, &parts)
-}
-
 impl NewReport {
     pub fn new() -> NewReport
         ensures { result.written ≡ 0 }
@@ -111,13 +90,11 @@ impl NewReport {
             Part::Word(b"threads"),
             Part::Number(shape.threads() as u64),
         ];
-        match write_piece(area, written, &parts) {
-            Ok(written) => Ok(OpenReport { written }),
-            Err(refusal) => Err(Refused {
-                refusal,
-                report: NewReport { written },
-            }),
-        }
+        let written = write_piece(area, written, &parts).map_err(|refusal| Refused {
+            refusal,
+            report: NewReport { written },
+        })?;
+        Ok(OpenReport { written })
     }
 }
 
@@ -129,14 +106,13 @@ impl OpenReport {
         ensures after { area.new ≡ left_at area.old self.old.written (line_for E.Element.printed entry) }
     {
         let text = entry.element.text();
-        self.written = write_entry(
-            area,
-            self.written,
-            word(entry.kind),
-            entry.thread,
-            entry.ticket,
-            text.as_bytes(),
-        )?;
+        let parts = [
+            Part::Word(word(entry.kind)),
+            Part::Number(entry.thread as u64),
+            Part::Number(entry.ticket as u64),
+            Part::Word(text.as_bytes()),
+        ];
+        self.written = write_piece(area, self.written, &parts)?;
         Ok(())
     }
 
@@ -144,27 +120,23 @@ impl OpenReport {
     pub fn closing(
         self,
         area: &mut [u8],
-        pushes: Ticket,
-        pops: Ticket,
-        waiting: usize,
+        counts: Counts,
     ) -> Result<ClosedReport, Refused<OpenReport>>
-        ensures answer { result ≡ closed self area.old (closing_line pushes pops waiting) }
-        ensures after { area.new ≡ left_at area.old self.written (closing_line pushes pops waiting) }
+        ensures answer { result ≡ closed self area.old (closing_line counts.pushes counts.pops counts.waiting) }
+        ensures after { area.new ≡ left_at area.old self.written (closing_line counts.pushes counts.pops counts.waiting) }
     {
         let OpenReport { written } = self;
         let parts = [
             Part::Word(b"left"),
-            Part::Number(pushes as u64),
-            Part::Number(pops as u64),
-            Part::Number(waiting as u64),
+            Part::Number(counts.pushes as u64),
+            Part::Number(counts.pops as u64),
+            Part::Number(counts.waiting as u64),
         ];
-        match write_piece(area, written, &parts) {
-            Ok(written) => Ok(ClosedReport { written }),
-            Err(refusal) => Err(Refused {
-                refusal,
-                report: OpenReport { written },
-            }),
-        }
+        let written = write_piece(area, written, &parts).map_err(|refusal| Refused {
+            refusal,
+            report: OpenReport { written },
+        })?;
+        Ok(ClosedReport { written })
     }
 }
 

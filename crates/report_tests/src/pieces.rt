@@ -1,5 +1,5 @@
 // Reports that go on after a refusal.
-use super::samples::{holds, number, pop, push};
+use super::samples::{counts, holds, number, pop, push};
 use report::states::{ClosedReport, NewReport, OpenReport, Refused, Unclosed};
 use std::test::Fail;
 use text::refusal::AreaRefusal;
@@ -33,7 +33,7 @@ fn heading_accepted(new: NewReport, area: &mut [u8], shape: &Shape) -> Result<Op
 }
 
 fn closing_refused(open: OpenReport, area: &mut [u8]) -> Result<OpenReport, Fail> {
-    match open.closing(area, 1, 1, 0) {
+    match open.closing(area, counts(1, 1, 0)) {
         Ok(closed) => {
             let _ = closed.finish();
             Err(Fail::new("the closing line was accepted"))
@@ -48,7 +48,7 @@ fn closing_refused(open: OpenReport, area: &mut [u8]) -> Result<OpenReport, Fail
 }
 
 fn closing_accepted(open: OpenReport, area: &mut [u8]) -> Result<ClosedReport, Fail> {
-    match open.closing(area, 1, 1, 0) {
+    match open.closing(area, counts(1, 1, 0)) {
         Ok(closed) => Ok(closed),
         Err(Refused { refusal: _, report }) => {
             let _ = report.abandon();

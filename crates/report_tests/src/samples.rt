@@ -1,7 +1,9 @@
 // What the tests write, and how they look at an area.
 use history::entry::{Entry, Kind};
+use report::counts::Counts;
 use runfile::letter::{Letter, Tone};
 use runfile::number::Number;
+use std::iter;
 
 pub fn push<E: Copy>(thread: u8, ticket: u16, element: E) -> Entry<E> {
     Entry {
@@ -41,28 +43,25 @@ pub fn urgent(sender: u8, serial: u32) -> Letter {
     }
 }
 
+pub fn counts(pushes: u16, pops: u16, waiting: usize) -> Counts {
+    Counts {
+        pushes,
+        pops,
+        waiting,
+    }
+}
+
 // Where the last line ends that stands whole in the first `room` bytes of the text.
 pub fn whole_lines(text: &[u8], room: usize) -> usize {
-    let mut end = 0;
-    for (i, byte) in text.iter().enumerate() {
-        if i < room && *byte == b'\n' {
-            end = i + 1;
-        }
-    }
-    end
+    text.iter()
+        .take(room)
+        .rposition(|byte| *byte == b'\n')
+        .map_or(0, |last| last + 1)
 }
 
 // Whether the area holds the first `size` bytes of the text, and dots everywhere else.
 pub fn holds(area: &[u8], text: &[u8], size: usize) -> bool {
-    for (i, byte) in area.iter().enumerate() {
-        let wanted = if i < size && i < text.len() {
-            text[i]
-        } else {
-            b'.'
-        };
-        if *byte != wanted {
-            return false;
-        }
-    }
-    true
+    let dots = iter::repeat(&b'.');
+    let wanted = text.iter().take(size).chain(dots);
+    area.iter().zip(wanted).all(|(byte, wanted)| byte == wanted)
 }

@@ -1,7 +1,8 @@
 // Whole reports, in areas of every length from 0 to some bytes more than the text has.
-use super::samples::{holds, number, plain, pop, push, urgent, whole_lines};
+use super::samples::{counts, holds, number, plain, pop, push, urgent, whole_lines};
+use faults::numbered::Numbered;
 use history::entry::Entry;
-use report::fault::Fault;
+use report::counts::Counts;
 use report::whole::write_report;
 use runfile::element::Element;
 use std::process::Abort;
@@ -14,25 +15,17 @@ fn every_length<E: Element>(
     rt: &impl Abort,
     entries: &[Entry<E>],
     used: usize,
-    pushes: u16,
-    pops: u16,
-    waiting: usize,
+    counts: Counts,
     text: &[u8],
 ) -> Result<(), Fail> {
     let shape = Shape::new(2, 64)?;
     for length in 0..=200 {
         let mut dots = [b'.'; 200];
         let area = &mut dots[0..length];
-        let answer = write_report(area, &shape, entries, used, pushes, pops, waiting);
+        let answer = write_report(area, &shape, entries, used, counts);
         let place = whole_lines(text, length);
         if length < text.len() {
-            assert_eq!(rt;
-                answer,
-                Err(Fault {
-                    refusal: AreaRefusal::ShortArea,
-                    place,
-                })
-            );
+            assert_eq!(rt; answer, Err(AreaRefusal::ShortArea.at(place)));
         } else {
             assert_eq!(rt; answer, Ok(text.len()));
         }
@@ -51,7 +44,7 @@ fn numbers_at_every_length(rt: HostRuntime) -> Result<(), Fail> {
     ];
     let text =
         b"slots 2 threads 64\npush 0 0 7\npop 1 0 7\npush 255 65535 4294967295\npop 10 1 0\nleft 65535 1 64\n";
-    every_length(&rt, &entries, 4, 65_535, 1, 64, text)
+    every_length(&rt, &entries, 4, counts(65_535, 1, 64), text)
 }
 
 #[test]
@@ -63,7 +56,7 @@ fn letters_at_every_length(rt: HostRuntime) -> Result<(), Fail> {
     ];
     let text =
         b"slots 2 threads 64\npush 0 0 255.4294967295!\npop 1 0 0.0\npush 2 1 9.10\nleft 2 1 0\n";
-    every_length(&rt, &entries, 3, 2, 1, 0, text)
+    every_length(&rt, &entries, 3, counts(2, 1, 0), text)
 }
 
 #[test]
@@ -73,18 +66,14 @@ fn used_entries_alone(rt: HostRuntime) -> Result<(), Fail> {
         &rt,
         &entries,
         0,
-        0,
-        0,
-        0,
+        counts(0, 0, 0),
         b"slots 2 threads 64\nleft 0 0 0\n",
     )?;
     every_length(
         &rt,
         &entries,
         1,
-        1,
-        0,
-        0,
+        counts(1, 0, 0),
         b"slots 2 threads 64\npush 0 0 7\nleft 1 0 0\n",
     )?;
     // More than there are.
@@ -92,9 +81,7 @@ fn used_entries_alone(rt: HostRuntime) -> Result<(), Fail> {
         &rt,
         &entries,
         9,
-        1,
-        1,
-        0,
+        counts(1, 1, 0),
         b"slots 2 threads 64\npush 0 0 7\npop 1 0 7\nleft 1 1 0\n",
     )
 }
@@ -104,7 +91,7 @@ fn worked_example(rt: HostRuntime) -> Result<(), Fail> {
     let shape = Shape::new(2, 2)?;
     let entries = [push(0, 0, number(7)), pop(1, 0, number(7))];
     let mut area = [b'.'; 64];
-    let size = write_report(&mut area, &shape, &entries, 2, 1, 1, 0)?;
+    let size = write_report(&mut area, &shape, &entries, 2, counts(1, 1, 0))?;
     assert_eq!(rt; size, 50);
     assert!(rt;
         holds(

@@ -8,9 +8,11 @@ ghost use Rattle.text.specs.Areas.{put};
 ghost use Rattle.report.specs.Lines.{line_for};
 ghost use Rattle.report.specs.Pieces.{left_at};
 ghost use Rattle.report.specs.Reports.{fitting, pieces_of, reported, text_of};
-ghost use Rattle.report_uses.specs.Uses.{entered};
+ghost use Rattle.report_uses.specs.Uses.{entered, one_of_each};
 
+use faults::numbered::Numbered;
 use history::entry::Entry;
+use report::counts::Counts;
 use report::fault::Fault;
 use report::states::{NewReport, OpenReport, Unclosed};
 use runfile::number::Number;
@@ -27,10 +29,7 @@ fn with_entry(
 {
     match open.entry(area, entry) {
         Ok(()) => Ok(open),
-        Err(refusal) => Err(Fault {
-            refusal,
-            place: open.abandon(),
-        }),
+        Err(refusal) => Err(refusal.at(open.abandon())),
     }
 }
 
@@ -41,13 +40,18 @@ pub fn write_pair(
     first: Entry<Number>,
     second: Entry<Number>,
 ) -> Result<usize, Fault>
-    ensures answer { result ≡ reported (length area.old) (pieces_of number_text shape.now (first ∷ second ∷ []) 1 1 0) }
-    ensures after { area.new ≡ put area.old 0 (text_of (fitting (length area.old) (pieces_of number_text shape.now (first ∷ second ∷ []) 1 1 0))) }
+    ensures answer { result ≡ reported (length area.old) (pieces_of number_text shape.now (first ∷ second ∷ []) one_of_each) }
+    ensures after { area.new ≡ put area.old 0 (text_of (fitting (length area.old) (pieces_of number_text shape.now (first ∷ second ∷ []) one_of_each))) }
 {
     let new = NewReport::new();
     let open = new.heading(area, shape)?;
     let open = with_entry(open, area, first)?;
     let open = with_entry(open, area, second)?;
-    let closed = open.closing(area, 1, 1, 0)?;
+    let counts = Counts {
+        pushes: 1,
+        pops: 1,
+        waiting: 0,
+    };
+    let closed = open.closing(area, counts)?;
     Ok(closed.finish())
 }

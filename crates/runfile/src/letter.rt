@@ -65,10 +65,10 @@ impl Element for Letter {
     fn text(&self) -> Text {
         let mut text = Text::new();
         // At most 15 bytes, so the text has room for each piece.
-        let _ = text.push_decimal(self.sender as u64);
-        let _ = text.push_bytes(b".");
-        let _ = text.push_decimal(self.serial as u64);
-        let _ = text.push_bytes(self.tone.mark());
+        let _ = text.push(self.sender as u64);
+        let _ = text.push(b".".as_slice());
+        let _ = text.push(self.serial as u64);
+        let _ = text.push(self.tone.mark());
         text
     }
 }

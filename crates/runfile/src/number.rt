@@ -38,7 +38,7 @@ impl Element for Number {
     fn text(&self) -> Text {
         let mut text = Text::new();
         // At most ten digits, so the text has room.
-        let _ = text.push_decimal(self.value as u64);
+        let _ = text.push(self.value as u64);
         text
     }
 }

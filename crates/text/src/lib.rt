@@ -2,7 +2,7 @@
 #![tactic(auto)]
 
 pub mod holder;
+pub mod piece;
 pub mod refusal;
 #[cfg(test)]
 mod tests;
-pub mod write;

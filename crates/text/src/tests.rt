@@ -1,19 +1,14 @@
 // Areas of every length from 0 to 25, and texts up to their limit.
 use super::holder::{LIMIT, Text};
+use super::piece::{Piece, decimal_width};
 use super::refusal::AreaRefusal;
-use super::write::{decimal_width, write_bytes, write_decimal};
+use faults::numbered::Numbered;
 use std::process::Abort;
 use std::test::Fail;
 
 // Whether the area holds the piece at its start, and dots everywhere else.
 fn holds(area: &[u8], piece: &[u8]) -> bool {
-    for (i, b) in area.iter().enumerate() {
-        let wanted = if i < piece.len() { piece[i] } else { b'.' };
-        if *b != wanted {
-            return false;
-        }
-    }
-    true
+    area.starts_with(piece) && area.iter().skip(piece.len()).all(|byte| *byte == b'.')
 }
 
 // What a writer of this piece must answer for an area so long, and leave in it.
@@ -49,7 +44,7 @@ fn numbers_at_every_length(rt: HostRuntime) -> Result<(), Fail> {
         for length in 0..=25 {
             let mut dots = [b'.'; 25];
             let area = &mut dots[0..length];
-            let answer = write_decimal(area, n);
+            let answer = n.write(area);
             checked(&rt, answer, area, spelled)?;
         }
     }
@@ -61,7 +56,7 @@ fn bytes_at_every_length(rt: HostRuntime) -> Result<(), Fail> {
     for length in 0..=25 {
         let mut dots = [b'.'; 25];
         let area = &mut dots[0..length];
-        let answer = write_bytes(area, b"slots 2 threads 2\n");
+        let answer = b"slots 2 threads 2\n".as_slice().write(area);
         checked(&rt, answer, area, b"slots 2 threads 2\n")?;
     }
     Ok(())
@@ -71,21 +66,21 @@ fn bytes_at_every_length(rt: HostRuntime) -> Result<(), Fail> {
 fn text_to_its_limit(rt: HostRuntime) -> Result<(), Fail> {
     let mut text = Text::new();
     assert!(rt; text.as_bytes() == b"".as_slice());
-    text.push_decimal(255)?;
-    text.push_bytes(b".")?;
-    text.push_decimal(4_294_967_295)?;
-    text.push_bytes(b"!")?;
+    text.push(255u64)?;
+    text.push(b".".as_slice())?;
+    text.push(4_294_967_295u64)?;
+    text.push(b"!".as_slice())?;
     assert!(rt; text.as_bytes() == b"255.4294967295!".as_slice());
     assert_eq!(rt;
-        text.push_decimal(123_456_789_012_345_678),
+        text.push(123_456_789_012_345_678u64),
         Err(AreaRefusal::ShortArea)
     );
     assert!(rt; text.as_bytes() == b"255.4294967295!".as_slice());
-    text.push_decimal(12_345_678_901_234_567)?;
+    text.push(12_345_678_901_234_567u64)?;
     assert!(rt; text.as_bytes() == b"255.4294967295!12345678901234567".as_slice());
     assert_eq!(rt; text.as_bytes().len(), LIMIT);
-    text.push_bytes(b"")?;
-    assert_eq!(rt; text.push_bytes(b"1"), Err(AreaRefusal::ShortArea));
+    text.push(b"".as_slice())?;
+    assert_eq!(rt; text.push(b"1".as_slice()), Err(AreaRefusal::ShortArea));
     assert!(rt; text.as_bytes() == b"255.4294967295!12345678901234567".as_slice());
     Ok(())
 }

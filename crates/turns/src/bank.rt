@@ -11,17 +11,13 @@ pub const SLOTS: usize = 64;
 // numbers below the cycle. Code above knows the row and the cycle and never how they are laid out,
 // so a later kind of bank joins by its impl alone.
 pub trait Bank {
-    // How many turns go round: each kind of bank states its own.
+    // How many turns go round: each kind of bank states its own, in code and for clauses.
     const CYCLE: u32;
 
-    // The same number, for clauses, and the turns that a bank means.
-    ghost cycle: { ℕ };
+    ghost CYCLE: { ℕ };
 
+    // The turns that a bank means.
     ghost row: { Self → List ℕ };
-
-    // `CYCLE`, by a call, whose clause ties it to `cycle`: generic code takes it from here.
-    fn cycle_length() -> u32
-        ensures { result ≡ cycle };
 
     // Makes all turns 0.
     fn clear(&mut self)
@@ -36,19 +32,19 @@ pub trait Bank {
     // Adds one to the slot's turn, going from the cycle's last to 0; a slot past the last alters
     // nothing.
     fn advance(&mut self, slot: usize)
-        ensures { row self.new ≡ advanced cycle (row self.old) slot };
+        ensures { row self.new ≡ advanced CYCLE (row self.old) slot };
 
     // Each impl owes these, so no bank outside them can be written.
-    ghost least: { 2 ≤ cycle };
+    ghost least: { 2 ≤ CYCLE };
 
-    ghost most: { cycle ≤ 4294967295 };
+    ghost most: { CYCLE ≤ 4294967295 };
 
-    ghost lawful: { (bank : Self) → Row cycle (row bank) };
+    ghost lawful: { (bank : Self) → Row CYCLE (row bank) };
 }
 
 // A turn as this kind of bank keeps it, the number to test for.
 pub fn reduced<B: Bank>(turn: Turn) -> Turn
-    ensures { result ≡ reduced_by B.Bank.cycle turn }
+    ensures { result ≡ reduced_by B.Bank.CYCLE turn }
 {
-    turn % B::cycle_length() as Turn
+    turn % B::CYCLE as Turn
 }

@@ -45,7 +45,7 @@ fn packed(even: u8, odd: u8) -> u8
 impl Bank for NibbleBank {
     const CYCLE: u32 = 16;
 
-    ghost cycle = { nibble_cycle };
+    ghost CYCLE = { nibble_cycle };
 
     ghost row = { λ bank. nibble_turns bank.bytes };
 
@@ -54,10 +54,6 @@ impl Bank for NibbleBank {
     ghost most = { Prim.search rules };
 
     ghost lawful = { λ bank. nibble_row bank.bytes bank.long };
-
-    fn cycle_length() -> u32 {
-        Self::CYCLE
-    }
 
     fn clear(&mut self) {
         *self = NibbleBank::new();

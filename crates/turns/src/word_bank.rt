@@ -32,7 +32,7 @@ impl WordBank {
 impl Bank for WordBank {
     const CYCLE: u32 = 1 << 26;
 
-    ghost cycle = { word_cycle };
+    ghost CYCLE = { word_cycle };
 
     ghost row = { λ bank. word_turns bank.words };
 
@@ -41,10 +41,6 @@ impl Bank for WordBank {
     ghost most = { Prim.search rules };
 
     ghost lawful = { λ bank. word_row bank.words bank.long };
-
-    fn cycle_length() -> u32 {
-        Self::CYCLE
-    }
 
     fn clear(&mut self) {
         *self = WordBank::new();

@@ -35,10 +35,9 @@ const RUNS: [Run; 3] = [
 
 // The bank holds the array's turn at each slot and no other, and none past the last slot.
 fn agrees<B: Bank>(rt: &impl Abort, bank: &B, turns: &[Turn; SLOTS]) {
-    let cycle = B::cycle_length() as Turn;
-    for slot in 0..SLOTS {
-        let turn = turns[slot];
-        assert!(rt; bank.holds(slot, turn));
+    let cycle = B::CYCLE as Turn;
+    for (slot, turn) in turns.iter().enumerate() {
+        assert!(rt; bank.holds(slot, *turn));
         assert!(rt; !bank.holds(slot, turn.wrapping_add(1) % cycle));
         assert!(rt; !bank.holds(slot, turn.wrapping_add(cycle)));
     }
@@ -48,7 +47,7 @@ fn agrees<B: Bank>(rt: &impl Abort, bank: &B, turns: &[Turn; SLOTS]) {
 
 // Every run of the table, each call drawn by a linear congruence, the bank compared after each.
 fn runs_as_an_array<B: Bank>(rt: &impl Abort, bank: &mut B) {
-    let cycle = B::cycle_length() as Turn;
+    let cycle = B::CYCLE as Turn;
     let mut turns = [0; SLOTS];
     agrees(rt, bank, &turns);
     let mut draw: u32 = 1;
@@ -75,7 +74,7 @@ fn runs_as_an_array<B: Bank>(rt: &impl Abort, bank: &mut B) {
 
 // A cleared bank's slot before, at and after the end of its cycle.
 fn goes_round<B: Bank>(rt: &impl Abort, bank: &mut B) {
-    let last = B::cycle_length() as Turn - 1;
+    let last = B::CYCLE as Turn - 1;
     let mut turns = [0; SLOTS];
     bank.clear();
     advance_many(bank, 5, last);

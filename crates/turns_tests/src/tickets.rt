@@ -1,4 +1,5 @@
 // Shapes, tickets and turns on worked numbers.
+use faults::numbered::Numbered;
 use std::test::Fail;
 use turns::bank::{Bank, reduced};
 use turns::nibble_bank::NibbleBank;

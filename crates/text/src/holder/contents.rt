@@ -1,9 +1,9 @@
 // What a text holds, and how it grows.
-ghost use Rattle.std.specs.Prelude.{◌≡◌, ◌≤◌, true, [], length, is_err, decimal};
+ghost use Rattle.std.specs.Prelude.{◌≡◌, ◌≤◌, true, [], length, is_err};
 ghost use Rattle.text.specs.Texts.{text_of, grew, grown};
 
+use super::super::piece::Piece;
 use super::super::refusal::AreaRefusal;
-use super::super::write::{write_bytes, write_decimal};
 use super::{LIMIT, Text};
 
 impl Text {
@@ -17,23 +17,12 @@ impl Text {
     }
 
     // The piece goes whole behind what is there, or the text stays as it is; the rest of the bytes is lent on.
-    pub fn push_bytes(&mut self, piece: &[u8]) -> Result<(), AreaRefusal>
-        ensures answer { result ≡ grew (text_of self.old) piece.now }
-        ensures after { text_of self.new ≡ grown (text_of self.old) piece.now }
+    pub fn push<P: Piece>(&mut self, piece: P) -> Result<(), AreaRefusal>
+        ensures answer { result ≡ grew (text_of self.old) (P.Piece.bytes piece) }
+        ensures after { text_of self.new ≡ grown (text_of self.old) (P.Piece.bytes piece) }
         ensures kept { is_err result ≡ true → self.new ≡ self.old }
     {
-        let more = write_bytes(&mut self.bytes[self.used..], piece)?;
-        self.used += more;
-        Ok(())
-    }
-
-    pub fn push_decimal(&mut self, n: u64) -> Result<(), AreaRefusal>
-        ensures answer { result ≡ grew (text_of self.old) (decimal n) }
-        ensures after { text_of self.new ≡ grown (text_of self.old) (decimal n) }
-        ensures kept { is_err result ≡ true → self.new ≡ self.old }
-    {
-        let width = write_decimal(&mut self.bytes[self.used..], n)?;
-        self.used += width;
+        self.used += piece.write(&mut self.bytes[self.used..])?;
         Ok(())
     }
 

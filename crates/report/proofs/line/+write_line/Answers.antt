@@ -13,7 +13,7 @@ pub returns-then-area-width : goal.returns-then-area-width
 returns-then-area-width t c =
     let some : 0 < length c.args.parts.now = omega (arith, ltb-false) in
     let f = line_front c.args.parts.now _ _ some refl in
-    let o = front_over c.args.area.now (line_of (map bytes_of c.args.parts.now)) _ _ _ _ f c.part_width-width.ensures (omega arith) in
+    let o = front_over c.args.area.now (line_of (map bytes_of c.args.parts.now)) _ _ _ _ f c.width-width.ensures (omega arith) in
     record { answer = o.0; after = o.1 }
 
 pub returns-in_err-more : goal.returns-in_err-more
@@ -22,7 +22,7 @@ returns-in_err-more t c =
     let f = line_front c.args.parts.now _ _ some refl in
     let e = c.in_err-more.ensures in
     let r = err_from_is_err_and c.from_residual.result c.from_residual.ensures.1 in
-    let o = rest_over c.args.area.now (line_of (map bytes_of c.args.parts.now)) _ _ _ _ f c.part_width-width.ensures c.write_line.new.area _ (omega arith) refl _ e.answer e.after in
+    let o = rest_over c.args.area.now (line_of (map bytes_of c.args.parts.now)) _ _ _ _ f c.width-width.ensures c.write_line.new.area _ (omega arith) refl _ e.answer e.after in
     record { answer = r.1 ∙ (ap Err r.2 ∙ o.0); after = o.1 }
 
 pub returns : goal.returns
@@ -30,5 +30,5 @@ returns t c =
     let some : 0 < length c.args.parts.now = omega (arith, ltb-false) in
     let f = line_front c.args.parts.now _ c.part_end.result some c.part_end.ensures in
     let e = c.in_ok-more.ensures in
-    let o = rest_fits c.args.area.now (line_of (map bytes_of c.args.parts.now)) _ _ _ _ f c.part_width-width.ensures c.write_line.new.area _ (omega arith) refl c.in_ok-more.more _ c.write_part.new.area (omega arith) e.answer e.after c.write_part.ensures.after in
+    let o = rest_fits c.args.area.now (line_of (map bytes_of c.args.parts.now)) _ _ _ _ f c.width-width.ensures c.write_line.new.area _ (omega arith) refl c.in_ok-more.more _ c.write.new.area (omega arith) e.answer e.after c.write.ensures.after in
     record { answer = o.0; after = o.1 }

@@ -12,8 +12,8 @@ pub returns-in_err-report : goal.returns-in_err-report
 returns-in_err-report g c =
     let e = c.in_err-report.ensures in
     let r = err_from_is_err_and c.from_residual.result c.from_residual.ensures.1 in
-    let b = not_begun g.E.Element.printed c.args.shape.now (take c.args.used c.args.entries.now) c.args.pushes c.args.pops c.args.waiting c.new.result c.args.area.now c.heading.new.area c.new.ensures e.after c.in_err-report.field-0.0 e.answer in
-    let o = ended g.E.Element.printed c.args.shape.now (take c.args.used c.args.entries.now) c.args.pushes c.args.pops c.args.waiting c.args.area.now c.heading.new.area _ _ (r.1 ∙ ap Err r.2) b in
+    let b = not_begun g.E.Element.printed c.args.shape.now (take c.args.used c.args.entries.now) c.args.counts c.new.result c.args.area.now c.heading.new.area c.new.ensures e.after c.in_err-report.field-0.0 e.answer in
+    let o = ended g.E.Element.printed c.args.shape.now (take c.args.used c.args.entries.now) c.args.counts c.args.area.now c.heading.new.area _ _ (r.1 ∙ ap Err r.2) b in
     record { answer = o.0; after = o.1; whole = o.2; told = told g.E.Element.printed; numbers = numbers_told }
 
 pub loop-entry-init : goal.loop-entry-init
@@ -26,11 +26,11 @@ returns-in-Err g c =
     let s = c.in-Some.ensures.steps in
     let h = c.in_ok-report.ensures in
     let e = c.in-Err.ensures in
-    let b = begun g.E.Element.printed c.args.shape.now (take c.args.used c.args.entries.now) c.args.pushes c.args.pops c.args.waiting c.new.result c.args.area.now c.heading.new.area c.new.ensures h.after c.in_ok-report.report h.answer in
+    let b = begun g.E.Element.printed c.args.shape.now (take c.args.used c.args.entries.now) c.args.counts c.new.result c.args.area.now c.heading.new.area c.new.ensures h.after c.in_ok-report.report h.answer in
     let m = ahead_more (iter_rest (take_source it)) (iter_rest (take_source to)) c.in-Some.entry.now (take_count it) (take_count to) s.0 s.1 in
-    let n = body_more g.E.Element.printed _ _ c.in-Some.entry.now c.args.pushes c.args.pops c.args.waiting m in
+    let n = body_more g.E.Element.printed _ _ c.in-Some.entry.now c.args.counts m in
     let a = accepted_err c.loop-entry.report c.entry.new.self c.loop-entry.area c.entry.new.area _ _ e.report e.after c.in-Err.refusal e.answer in
-    let o = ended g.E.Element.printed c.args.shape.now (take c.args.used c.args.entries.now) c.args.pushes c.args.pops c.args.waiting c.args.area.now c.entry.new.area _ _ (ap (λ k. Err (record { refusal = c.in-Err.refusal; place = k })) c.abandon-place.ensures) (b ∙ (c.loop-entry.invariant.2 ∙ (ap (run c.loop-entry.area c.loop-entry.report.written) n ∙ a))) in
+    let o = ended g.E.Element.printed c.args.shape.now (take c.args.used c.args.entries.now) c.args.counts c.args.area.now c.entry.new.area _ _ (ap Err (c.at.ensures ∙ ap (λ k. record { refusal = c.in-Err.refusal; place = k }) c.abandon.ensures)) (b ∙ (c.loop-entry.invariant.2 ∙ (ap (run c.loop-entry.area c.loop-entry.report.written) n ∙ a))) in
     record { answer = o.0; after = o.1; whole = o.2; told = told g.E.Element.printed; numbers = numbers_told }
 
 pub loop-entry-preserved : goal.loop-entry-preserved
@@ -40,7 +40,7 @@ loop-entry-preserved g c =
     let s = c.in-Some.ensures.steps in
     let e = c.in_default.ensures in
     let m = ahead_more (iter_rest (take_source it)) (iter_rest (take_source to)) c.in-Some.entry.now (take_count it) (take_count to) s.0 s.1 in
-    let n = body_more g.E.Element.printed _ _ c.in-Some.entry.now c.args.pushes c.args.pops c.args.waiting m in
+    let n = body_more g.E.Element.printed _ _ c.in-Some.entry.now c.args.counts m in
     let a = accepted_ok c.loop-entry.report c.entry.new.self c.loop-entry.area c.entry.new.area _ _ e.report e.after e.answer in
     (tt, tt, c.loop-entry.invariant.2 ∙ (ap (run c.loop-entry.area c.loop-entry.report.written) n ∙ a))
 
@@ -51,11 +51,11 @@ returns-in_err-closed g c =
     let h = c.in_ok-report.ensures in
     let e = c.in_err-closed.ensures in
     let r = err_from_is_err_and c.from_residual-in_err-closed.result c.from_residual-in_err-closed.ensures.1 in
-    let b = begun g.E.Element.printed c.args.shape.now (take c.args.used c.args.entries.now) c.args.pushes c.args.pops c.args.waiting c.new.result c.args.area.now c.heading.new.area c.new.ensures h.after c.in_ok-report.report h.answer in
+    let b = begun g.E.Element.printed c.args.shape.now (take c.args.used c.args.entries.now) c.args.counts c.new.result c.args.area.now c.heading.new.area c.new.ensures h.after c.in_ok-report.report h.answer in
     let m = ahead_none (iter_rest (take_source it)) (take_count it) (λ k. (s k).0) in
-    let n = body_none g.E.Element.printed _ c.args.pushes c.args.pops c.args.waiting m in
-    let a = closed_err c.loop-entry.report c.loop-entry.area c.closing.new.area (closing_line c.args.pushes c.args.pops c.args.waiting) e.after c.in_err-closed.field-0.0 e.answer in
-    let o = ended g.E.Element.printed c.args.shape.now (take c.args.used c.args.entries.now) c.args.pushes c.args.pops c.args.waiting c.args.area.now c.closing.new.area _ _ (r.1 ∙ ap Err r.2) (b ∙ (c.loop-entry.invariant.2 ∙ (ap (run c.loop-entry.area c.loop-entry.report.written) n ∙ a))) in
+    let n = body_none g.E.Element.printed _ c.args.counts m in
+    let a = closed_err c.loop-entry.report c.loop-entry.area c.closing.new.area (closing_line c.args.counts.pushes c.args.counts.pops c.args.counts.waiting) e.after c.in_err-closed.field-0.0 e.answer in
+    let o = ended g.E.Element.printed c.args.shape.now (take c.args.used c.args.entries.now) c.args.counts c.args.area.now c.closing.new.area _ _ (r.1 ∙ ap Err r.2) (b ∙ (c.loop-entry.invariant.2 ∙ (ap (run c.loop-entry.area c.loop-entry.report.written) n ∙ a))) in
     record { answer = o.0; after = o.1; whole = o.2; told = told g.E.Element.printed; numbers = numbers_told }
 
 pub returns : goal.returns
@@ -64,9 +64,9 @@ returns g c =
     let s = c.in-None.ensures.steps in
     let h = c.in_ok-report.ensures in
     let e = c.in_ok-closed.ensures in
-    let b = begun g.E.Element.printed c.args.shape.now (take c.args.used c.args.entries.now) c.args.pushes c.args.pops c.args.waiting c.new.result c.args.area.now c.heading.new.area c.new.ensures h.after c.in_ok-report.report h.answer in
+    let b = begun g.E.Element.printed c.args.shape.now (take c.args.used c.args.entries.now) c.args.counts c.new.result c.args.area.now c.heading.new.area c.new.ensures h.after c.in_ok-report.report h.answer in
     let m = ahead_none (iter_rest (take_source it)) (take_count it) (λ k. (s k).0) in
-    let n = body_none g.E.Element.printed _ c.args.pushes c.args.pops c.args.waiting m in
-    let a = closed_ok c.loop-entry.report c.loop-entry.area c.closing.new.area (closing_line c.args.pushes c.args.pops c.args.waiting) e.after c.in_ok-closed.closed e.answer in
-    let o = ended g.E.Element.printed c.args.shape.now (take c.args.used c.args.entries.now) c.args.pushes c.args.pops c.args.waiting c.args.area.now c.closing.new.area _ _ (ap Ok c.finish.ensures) (b ∙ (c.loop-entry.invariant.2 ∙ (ap (run c.loop-entry.area c.loop-entry.report.written) n ∙ a))) in
+    let n = body_none g.E.Element.printed _ c.args.counts m in
+    let a = closed_ok c.loop-entry.report c.loop-entry.area c.closing.new.area (closing_line c.args.counts.pushes c.args.counts.pops c.args.counts.waiting) e.after c.in_ok-closed.closed e.answer in
+    let o = ended g.E.Element.printed c.args.shape.now (take c.args.used c.args.entries.now) c.args.counts c.args.area.now c.closing.new.area _ _ (ap Ok c.finish.ensures) (b ∙ (c.loop-entry.invariant.2 ∙ (ap (run c.loop-entry.area c.loop-entry.report.written) n ∙ a))) in
     record { answer = o.0; after = o.1; whole = o.2; told = told g.E.Element.printed; numbers = numbers_told }

@@ -9,5 +9,5 @@ abbrev pub invariant-loop-entry : goal.invariant-loop-entry
 invariant-loop-entry g l =
     (goal.iterator-loop-entry g).can_next l.entry-iterator ×
     (goal.iterator-loop-entry g).is_finite l.entry-iterator ×
-    (run l.initial.area l.initial.report.written (body_of g.E.Element.printed (take l.used l.entries) l.pushes l.pops l.waiting)
-    ≡ run l.area l.report.written (body_of g.E.Element.printed (take (take_count l.entry-iterator) (iter_rest (take_source l.entry-iterator))) l.pushes l.pops l.waiting))
+    (run l.initial.area l.initial.report.written (body_of g.E.Element.printed (take l.used l.entries) l.counts)
+    ≡ run l.area l.report.written (body_of g.E.Element.printed (take (take_count l.entry-iterator) (iter_rest (take_source l.entry-iterator))) l.counts))

@@ -1,4 +1,4 @@
-use Rattle.std.proofs.Common.{◌^◌, ◌<◌, refl, arith}
+use Rattle.std.proofs.Common.{◌^◌, ◌<◌, arith}
 use Rattle.runfile.proofs.ElementLaws.{letter_pieces}
 use Rattle.runfile.proofs.letter.LetterElement.text.Goals as goal
 
@@ -6,4 +6,4 @@ pub returns : goal.returns
 returns c =
     let s : c.args.self.now.sender < 256 = omega arith in
     let n : c.args.self.now.serial < 2 ^ 32 = omega arith in
-    letter_pieces c.args.self.now _ _ _ _ _ _ _ s n c.new-text.ensures c.push_decimal.ensures.after refl c.push_bytes.ensures.after c.push_decimal-2.ensures.after c.mark.ensures c.push_bytes-2.ensures.after
+    letter_pieces c.args.self.now _ _ _ _ _ _ _ s n c.new-text.ensures c.push.ensures.after c.as_slice.ensures c.push-2.ensures.after c.push-3.ensures.after c.mark.ensures c.push-4.ensures.after

@@ -6,4 +6,4 @@ pub returns : goal.returns
 returns c =
     let v : c.args.self.now.value < 2 ^ 32 = omega arith in
     let w = length_decimal_32 c.args.self.now.value v in
-    push_fits _ _ [] (decimal c.args.self.now.value) c.new-text.ensures c.push_decimal.ensures.after (omega arith)
+    push_fits _ _ [] (decimal c.args.self.now.value) c.new-text.ensures c.push.ensures.after (omega arith)

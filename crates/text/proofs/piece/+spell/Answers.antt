@@ -1,7 +1,7 @@
 use Rattle.std.proofs.Common.{refl, arith, rules}
 use Rattle.std.proofs.lemmas.Fmt.{decimal_nonempty}
 use Rattle.text.proofs.Figures.{length_step, spell_one, spell_more}
-use Rattle.text.proofs.write.+spell.Goals as goal
+use Rattle.text.proofs.piece.+spell.Goals as goal
 
 pub overflow_sub-last : goal.overflow_sub-last
 overflow_sub-last t c = let p = decimal_nonempty c.args.n (omega arith) in omega arith

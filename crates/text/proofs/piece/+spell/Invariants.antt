@@ -1,4 +1,4 @@
-use Rattle.text.proofs.write.+spell.Given as goal
+use Rattle.text.proofs.piece.+spell.Given as goal
 
 abbrev pub decreases-spell : goal.decreases-spell
 decreases-spell l = l.n

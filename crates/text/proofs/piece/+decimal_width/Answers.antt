@@ -1,6 +1,6 @@
 use Rattle.std.proofs.Common.{◌^◌, arith, rules}
 use Rattle.text.proofs.Figures.{length_below, length_one, length_step}
-use Rattle.text.proofs.write.+decimal_width.Goals as goal
+use Rattle.text.proofs.piece.+decimal_width.Goals as goal
 
 pub returns-then-n-lt10 : goal.returns-then-n-lt10
 returns-then-n-lt10 t c = search (rules, length_one)

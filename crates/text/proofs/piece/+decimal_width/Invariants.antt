@@ -1,4 +1,4 @@
-use Rattle.text.proofs.write.+decimal_width.Given as goal
+use Rattle.text.proofs.piece.+decimal_width.Given as goal
 
 abbrev pub decreases-decimal_width : goal.decreases-decimal_width
 decreases-decimal_width l = l.n
