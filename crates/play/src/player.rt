@@ -86,7 +86,7 @@ impl<B: Bank, E: Element> Player<'_, '_, B, E> {
     // any other is stepped.
     fn move_thread(&mut self, thread: u8) -> Result<(), Refusal>
         ensures keeps { Keeps self.old self.new }
-        ensures answer { (result, world_of B.Bank.row self.new, self.new.begun) ≡ moved E.Element.format B.Bank.cycle (contents_of self.old.run.now) (world_of B.Bank.row self.old) self.old.begun thread }
+        ensures answer { (result, world_of B.Bank.row self.new, self.new.begun) ≡ moved E.Element.format B.Bank.CYCLE (contents_of self.old.run.now) (world_of B.Bank.row self.old) self.old.begun thread }
     {
         match self.machine.phase(thread)? {
             Phase::Idle => self.begin_next(thread)?,
@@ -105,7 +105,7 @@ impl<B: Bank, E: Element> Player<'_, '_, B, E> {
     fn play(&mut self, schedule: &[u8], first: usize) -> Result<(), Fault>
         requires { first + length schedule.now < 2 ^ 64 }
         ensures keeps { Keeps self.old self.new }
-        ensures answer { (result, world_of B.Bank.row self.new, self.new.begun) ≡ played E.Element.format B.Bank.cycle (contents_of self.old.run.now) (world_of B.Bank.row self.old) self.old.begun schedule.now first }
+        ensures answer { (result, world_of B.Bank.row self.new, self.new.begun) ≡ played E.Element.format B.Bank.CYCLE (contents_of self.old.run.now) (world_of B.Bank.row self.old) self.old.begun schedule.now first }
     {
         for (index, &thread) in schedule.iter().enumerate() {
             let place = first + index;
@@ -118,7 +118,7 @@ impl<B: Bank, E: Element> Player<'_, '_, B, E> {
     // Both schedules of the run, the lead-in first.
     pub(crate) fn play_both(&mut self) -> Result<(), Fault>
         ensures keeps { Keeps self.old self.new }
-        ensures answer { (result, world_of B.Bank.row self.new, self.new.begun) ≡ played E.Element.format B.Bank.cycle (contents_of self.old.run.now) (world_of B.Bank.row self.old) self.old.begun (whole_schedule (contents_of self.old.run.now)) 0 }
+        ensures answer { (result, world_of B.Bank.row self.new, self.new.begun) ≡ played E.Element.format B.Bank.CYCLE (contents_of self.old.run.now) (world_of B.Bank.row self.old) self.old.begun (whole_schedule (contents_of self.old.run.now)) 0 }
     {
         let schedule = Schedule {
             lead_in: self.run.lead_in(),

@@ -26,8 +26,8 @@ pub fn play_run<B: Bank, E: Element>(
     hands: &mut [E],
     entries: &mut [Entry<E>],
 ) -> Result<(), Fault>
-    ensures answer { (result, world (B.Bank.row machine.new.bank) machine.new.table cells.new hands.new entries.new) ≡ ended (ran E.Element.format B.Bank.cycle (contents_of run.now) shape (world (B.Bank.row machine.old.bank) machine.old.table cells.old hands.old entries.old)) }
-    ensures reached { OnOk result (Reached B.Bank.cycle (new_world shape cells.old hands.old entries.old) (world (B.Bank.row machine.new.bank) machine.new.table cells.new hands.new entries.new)) }
+    ensures answer { (result, world (B.Bank.row machine.new.bank) machine.new.table cells.new hands.new entries.new) ≡ ended (ran E.Element.format B.Bank.CYCLE (contents_of run.now) shape (world (B.Bank.row machine.old.bank) machine.old.table cells.old hands.old entries.old)) }
+    ensures reached { OnOk result (Reached B.Bank.CYCLE (new_world shape cells.old hands.old entries.old) (world (B.Bank.row machine.new.bank) machine.new.table cells.new hands.new entries.new)) }
 {
     machine.open(shape, cells).map_err(|refusal| refusal.at(0))?;
     let mut player = Player::new(machine, run, cells, hands, entries);

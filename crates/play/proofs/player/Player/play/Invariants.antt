@@ -8,5 +8,5 @@ use Rattle.play.proofs.player.Player.play.Given as goal
 abbrev pub invariant-loop-index : goal.invariant-loop-index
 invariant-loop-index g l =
     Keeps l.initial.self l.self
-    × (played g.E.Element.format g.B.Bank.cycle (contents_of l.initial.self.run.now) (world_of g.B.Bank.row l.initial.self) l.initial.self.begun l.schedule l.first
-    ≡ played g.E.Element.format g.B.Bank.cycle (contents_of l.initial.self.run.now) (world_of g.B.Bank.row l.self) l.self.begun (drop l.index l.schedule) (l.first + l.index))
+    × (played g.E.Element.format g.B.Bank.CYCLE (contents_of l.initial.self.run.now) (world_of g.B.Bank.row l.initial.self) l.initial.self.begun l.schedule l.first
+    ≡ played g.E.Element.format g.B.Bank.CYCLE (contents_of l.initial.self.run.now) (world_of g.B.Bank.row l.self) l.self.begun (drop l.index l.schedule) (l.first + l.index))
