@@ -1,7 +1,7 @@
 -- What one schedule entry does with the thread that it names.
 use Rattle.std.specs.Prelude.{ℕ, ◌+◌, cond, List, [], drop, Some, None, Ok, Err, Option, Result, nat_le, slice_index, slice_set}
 use Rattle.std.specs.Option.{unwrap_or}
-use Rattle.runfile.specs.Faults.{FileFault}
+use Rattle.std.specs.Result.{result_ok}
 use Rattle.runfile.specs.declared.operation.Operation.{Operation}
 use Rattle.runfile.specs.declared.operation.Operation.TheVariants.{Push, Pop}
 use Rattle.runfile.specs.Elements.{Format}
@@ -21,14 +21,9 @@ abbrev pub accepted : {A : Type 0} → Result A Refusal → Result (Unit {0}) Re
 accepted (Ok a) = Ok tt
 accepted (Err r) = Err r
 
--- the operation that was read, if any
-abbrev pub readable : {A : Type 0} → Result A FileFault → Option A
-readable (Ok o) = Some o
-readable (Err f) = None
-
 -- a thread's next operation stands behind the bytes of its program that are begun; at the program's end there is none
 abbrev pub next_operation : {T : Type 0} → Format T → Contents → ℕ → ℕ → Option (Operation T)
-next_operation form c i begun = readable (operation form (drop begun (unwrap_or (program_of c i) [])) 0)
+next_operation form c i begun = result_ok (operation form (drop begun (unwrap_or (program_of c i) [])) 0)
 
 -- an accepted begin takes its operation off the thread's program
 abbrev pub begun_after : Result (Unit {0}) Refusal → List ℕ → ℕ → ℕ → List ℕ
