@@ -1,14 +1,16 @@
 -- The bodies as references into the file, against the bodies as lists.
-use Rattle.std.proofs.Common.{◌≡◌, ℕ, zero, suc, ◌+◌, ◌<◌, ◌≤◌, List, [], ◌∷◌, ◌++◌, map, length, get_or, take, drop, Ok, Err, sym, refl, ap, ◌∙◌, arith, length-append, length-take, Bor}
+use Rattle.std.proofs.Common.{◌≡◌, ℕ, zero, suc, ◌+◌, ◌<◌, ◌≤◌, List, [], ◌∷◌, map, length, get_or, take, drop, Some, Ok, Err, Result, sym, refl, ap, ◌∙◌, inl, inr, arith, length-append, length-drop, length-take, Bor}
 use Rattle.std.specs.List.{flat_map}
-use Rattle.std.proofs.lemmas.List.{get_or-take, get_or-map, take-map, drop-map, drop-take, take-take, length-map}
+use Rattle.std.proofs.lemmas.List.{get_or-take, get_or-drop, get_or-map, take-map, drop-map, drop-take, take-take, length-map}
+use Rattle.std.proofs.lemmas.Option.{slice_get-get_or, slice_get_past}
+use Rattle.std.proofs.lemmas.Bool.{cases_lt, le-ltb, lt-ltb}
+use Rattle.std.specs.List.{slice_get}
+use Rattle.runfile.specs.declared.runs.RunFile.{RunFile}
 use Rattle.runfile.specs.Faults.{FileFault}
-use Rattle.runfile.specs.declared.header.Header.{Header}
-use Rattle.runfile.specs.declared.bodies.Bodies.{Bodies}
 use Rattle.runfile.specs.Chains.{chain}
 use Rattle.runfile.specs.Tables.{cut_of}
-use Rattle.runfile.specs.Headers.{headed}
-use Rattle.runfile.specs.Files.{run_checked, bodies_checked, programs_in, lead_in_in, main_in}
+use Rattle.runfile.specs.Headers.{Head, head_of, headed}
+use Rattle.runfile.specs.Files.{Contents, bodies_read, contents_of, program_of, run_checked, programs_in, lead_in_in, main_in}
 
 -- what the checker reads past an array's end
 abbrev pub nothing : Bor (List ℕ)
@@ -27,10 +29,6 @@ cut_programs cuts count n m e same =
     ∙ ap (take n) (sym (drop-map (λ x. x.now) 1 cuts))
     ∙ sym (take-take n (n + 2) (drop 1 (map (λ x. x.now) cuts)) (omega arith))
     ∙ ap (take n) (sym (drop-take 1 (n + 2) (map (λ x. x.now) cuts))))
-
-pub joined_map : (rs : List (Bor (List ℕ))) → flat_map (λ p. p.now) rs ≡ flat_map (λ b. b) (map (λ x. x.now) rs)
-joined_map [] = refl
-joined_map (r ∷ rs) = ap (λ l. r.now ++ l) (joined_map rs)
 
 -- programs, and two schedules after them
 joined_two : (n : ℕ) (bs : List (List ℕ)) → length bs ≡ n + 2 → length (flat_map (λ b. b) bs) ≡ length (flat_map (λ b. b) (take n bs)) + length (get_or bs n []) + length (get_or bs (1 + n) [])
@@ -51,35 +49,51 @@ joined_parts n (x ∷ bs) h =
     let k : 2 + n ≡ suc (1 + n) = omega arith in
     rw (j, k) (simp length-append (omega arith))
 
+pub joined_first : (bs : List (List ℕ)) → 0 < length bs → length (flat_map (λ b. b) bs) ≡ length (get_or bs 0 []) + length (flat_map (λ b. b) (drop 1 bs))
+joined_first [] h = absurd (omega arith)
+joined_first (b ∷ bs) h = length-append b (flat_map (λ b. b) bs)
+
+-- a run has a program for each thread, and three other bodies
+pub bodies_count : (f : RunFile) → length (contents_of f).bodies ≡ f.header.shape.threads + 3
+bodies_count f =
+    let few = f.header.shape.few.1 in
+    let long = f.bodies.long in
+    simp (length-take, length-map) (omega arith)
+
+pub run_programs : (f : RunFile) (m : ℕ) → m ≡ f.header.shape.threads → map (λ x. x.now) (take m (drop 1 f.bodies.cuts)) ≡ programs_in f.header.shape.threads (contents_of f).bodies
+run_programs f m e = cut_programs f.bodies.cuts (f.header.shape.threads + 3) f.header.shape.threads m refl e
+
+pub program_get : (c : Contents) (thread : ℕ) → length c.bodies ≡ c.header.threads + 3 → slice_get (programs_in c.header.threads c.bodies) thread ≡ program_of c thread
+program_get c thread h = elim (cases_lt thread c.header.threads) [
+  | inl below ↦ (
+      let l : thread < length (programs_in c.header.threads c.bodies) = simp (length-take, length-drop) (omega arith) in
+      slice_get-get_or (programs_in c.header.threads c.bodies) thread [] l
+      ∙ rw (lt-ltb thread c.header.threads below) (ap Some (get_or-take c.header.threads (drop 1 c.bodies) thread [] below ∙ get_or-drop 1 c.bodies thread [])))
+  | inr past ↦ (
+      let l : length (programs_in c.header.threads c.bodies) ≤ thread = simp (length-take, length-drop) (omega arith) in
+      slice_get_past (programs_in c.header.threads c.bodies) thread l ∙ rw (le-ltb thread c.header.threads past) refl)
+]
+
+-- what follows the shape: programs and two schedules
+pub run_parts : (f : RunFile) → length (flat_map (λ b. b) (drop 1 (contents_of f).bodies)) ≡ length (flat_map (λ b. b) (programs_in f.header.shape.threads (contents_of f).bodies)) + length (lead_in_in f.header.shape.threads (contents_of f).bodies) + length (main_in f.header.shape.threads (contents_of f).bodies)
+run_parts f =
+    let n = f.header.shape.threads in
+    let bs = (contents_of f).bodies in
+    let l : length (drop 1 bs) ≡ n + 2 = simp length-drop (omega (arith, bodies_count f)) in
+    let k : 1 + (1 + n) ≡ 2 + n = omega arith in
+    joined_two n (drop 1 bs) l ∙ simp (get_or-drop 1 bs n [], get_or-drop 1 bs (1 + n) [], k)
+
 module _ (count start : ℕ) (bs : List (List ℕ)) (shape : List ℕ) (first : shape ≡ get_or bs 0 []) where
-  pub shape_fault : (f : FileFault) → Err f ≡ headed count shape start → bodies_checked count bs start ≡ Err f
-  shape_fault f e = ap (λ r. chain r (λ h. chain (run_checked h (programs_in h.threads bs) (lead_in_in h.threads bs) (main_in h.threads bs) (start + length (get_or bs 0 []))) (λ _. Ok h))) (ap (λ l. headed count l start) (sym first) ∙ sym e)
+  pub shape_fault : (f : FileFault) → Err f ≡ headed count shape start → bodies_read count bs start ≡ Err f
+  shape_fault f e = rw (← first, ← e)
 
-  pub after_shape : (h : Header) (programs : List (List ℕ)) (lead_in main : List ℕ) → Ok h ≡ headed count shape start → programs ≡ programs_in h.threads bs → lead_in ≡ lead_in_in h.threads bs → main ≡ main_in h.threads bs → bodies_checked count bs start ≡ chain (run_checked h programs lead_in main (start + length shape)) (λ _. Ok h)
-  after_shape h programs lead_in main e p l m =
-      ap (λ r. chain r (λ h. chain (run_checked h (programs_in h.threads bs) (lead_in_in h.threads bs) (main_in h.threads bs) (start + length (get_or bs 0 []))) (λ _. Ok h))) (ap (λ l. headed count l start) (sym first) ∙ sym e)
-      ∙ rw (first, p, l, m)
+  pub after_shape : (h : Head) (r : Result (Unit {0}) FileFault) → Ok h ≡ headed count shape start → r ≡ run_checked h (programs_in h.threads bs) (lead_in_in h.threads bs) (main_in h.threads bs) (start + length shape) → bodies_read count bs start ≡ chain r (λ _. Ok (record { header = h; bodies = bs }))
+  after_shape h (Ok u) e d = rw (← first, ← e, ← d)
+  after_shape h (Err f) e d = rw (← first, ← e, ← d)
 
-module _ (cuts : List (Bor (List ℕ))) (count start : ℕ) (room : count ≤ length cuts) where
-  -- the bodies lie in the file
-  pub cut_room : (n m : ℕ) → n + 3 ≡ count → m ≡ n → start + length (flat_map (λ b. b) (take count (map (λ x. x.now) cuts))) ≤ 49152 → start + length (get_or cuts 0 nothing).now + length (flat_map (λ p. p.now) (take m (drop 1 cuts))) + length (get_or cuts (1 + n) nothing).now + length (get_or cuts (2 + n) nothing).now ≤ 49152
-  cut_room n m e same h =
-      let bs : List (List ℕ) = take count (map (λ x. x.now) cuts) in
-      let long : length bs ≡ n + 3 = simp (length-take, length-map) (omega arith) in
-      let j = joined_parts n bs long in
-      let s = ap length (cut_at cuts count 0 (omega arith) room) in
-      let p = ap length (joined_map (take m (drop 1 cuts)) ∙ ap (flat_map (λ b. b)) (cut_programs cuts count n m e same)) in
-      let l = ap length (cut_at cuts count (1 + n) (omega arith) room) in
-      let k = ap length (cut_at cuts count (2 + n) (omega arith) room) in
-      omega arith
-
-  pub cut_checked : (h : Header) (m : ℕ) → h.threads + 3 ≡ count → m ≡ h.threads → Ok h ≡ headed count (get_or cuts 0 nothing).now start → bodies_checked count (take count (map (λ x. x.now) cuts)) start ≡ chain (run_checked h (map (λ x. x.now) (take m (drop 1 cuts))) (get_or cuts (1 + h.threads) nothing).now (get_or cuts (2 + h.threads) nothing).now (start + length (get_or cuts 0 nothing).now)) (λ _. Ok h)
-  cut_checked h m e same ok =
-      after_shape count start (take count (map (λ x. x.now) cuts)) (get_or cuts 0 nothing).now (cut_at cuts count 0 (omega arith) room) h (map (λ x. x.now) (take m (drop 1 cuts))) (get_or cuts (1 + h.threads) nothing).now (get_or cuts (2 + h.threads) nothing).now ok
-      (cut_programs cuts count h.threads m e same)
-      (cut_at cuts count (1 + h.threads) (omega arith) room)
-      (cut_at cuts count (2 + h.threads) (omega arith) room)
-
--- a body of the file, read off the cuts
-pub cut_body : (b : Bodies) (threads k : ℕ) (part : List ℕ) → k < threads + 3 → part ≡ get_or (map (λ x. x.now) b.cuts) k [] → part ≡ get_or (cut_of (threads + 3) b) k []
-cut_body b threads k part h e = e ∙ sym (get_or-take (threads + 3) (map (λ x. x.now) b.cuts) k [] h)
+pub run_read : (f : RunFile) (count start : ℕ) (shape : List ℕ) (r : Result (Unit {0}) FileFault) → f.header.shape.threads + 3 ≡ count → shape ≡ (get_or f.bodies.cuts 0 nothing).now → Ok (head_of f.header) ≡ headed count shape start → r ≡ run_checked (head_of f.header) (programs_in f.header.shape.threads (contents_of f).bodies) (lead_in_in f.header.shape.threads (contents_of f).bodies) (main_in f.header.shape.threads (contents_of f).bodies) (start + length shape) → bodies_read count (cut_of count f.bodies) start ≡ chain r (λ _. Ok (contents_of f))
+run_read f count start shape r same is e d =
+    let few = f.header.shape.few.1 in
+    let long = f.bodies.long in
+    let s = is ∙ cut_at f.bodies.cuts (f.header.shape.threads + 3) 0 (omega arith) (omega arith) in
+    rw (← same) (after_shape (f.header.shape.threads + 3) start (cut_of (f.header.shape.threads + 3) f.bodies) shape s (head_of f.header) r (rw (← same) at e) d)

@@ -1,18 +1,19 @@
 -- What is known of a file once a check has passed.
-use Rattle.std.proofs.Common.{◌≡◌, ℕ, suc, ◌+◌, ◌-◌, ◌*◌, ◌≤◌, true, eqb, ltb, List, [], ◌∷◌, length, get_or, take, drop, Some, None, Ok, Option, sym, refl, ap, ◌∙◌, add-zero, arith, length-append, length-drop, length-take}
+use Rattle.std.proofs.Common.{◌≡◌, ℕ, suc, ◌+◌, ◌-◌, ◌*◌, ◌≤◌, Bool, true, false, eqb, ltb, List, [], ◌∷◌, length, get_or, take, drop, Some, None, Ok, Err, MatchResult, is_ok, Option, Result, sym, refl, ap, ◌∙◌, add-zero, arith, length-append, length-drop, length-take}
 use Rattle.std.proofs.lemmas.Bool.{ltb-false, eqb-true}
 use Rattle.std.proofs.lemmas.Bool.Decides.{nat_tests}
 use Rattle.std.specs.List.{flat_map}
 use Rattle.std.specs.Option.{ok_or}
-use Rattle.runfile.specs.declared.header.Header.{Header}
 use Rattle.runfile.specs.declared.kinds.ElementKind.{ElementKind}
 use Rattle.runfile.specs.declared.kinds.ElementKind.TheVariants.{Number, Letter}
 use Rattle.runfile.specs.declared.table.Entry.{Entry}
+use Rattle.runfile.specs.declared.tabled.TabledFile.{TabledFile}
 use Rattle.runfile.specs.Chains.{chain}
 use Rattle.runfile.specs.Elements.{Format, number_format, letter_format}
+use Rattle.turns.specs.Shapes.{Few}
 use Rattle.runfile.specs.Faults.{FileFault, cut, contents, body, tail}
 use Rattle.runfile.specs.Files.{counted, table, divided, programs_checked}
-use Rattle.runfile.specs.Headers.{headed, slots_right}
+use Rattle.runfile.specs.Headers.{Head, headed, slots_right}
 use Rattle.runfile.specs.Kinds.{element_kind, bank_kind}
 use Rattle.runfile.specs.Programs.{operations, programmed}
 use Rattle.runfile.specs.Tables.{entries, tabled, bodied}
@@ -44,6 +45,9 @@ counted_ok file count e =
 pub length_table : (count : ℕ) (file : List ℕ) → 1 + 5 * count ≤ length file → length (table count file) ≡ 5 * count
 length_table count file h = simp (length-take, length-drop) (omega arith)
 
+pub table_entries : (file : TabledFile) → length (entries (table file.count.entries file.bytes.now)) ≡ file.count.entries
+table_entries file = entries_length file.count.entries (table file.count.entries file.bytes.now) (length_table file.count.entries file.bytes.now file.whole)
+
 pub bodied_count : (es : List Entry) (bytes : List ℕ) (end : ℕ) (bs : List (List ℕ)) → bodied es bytes end ≡ Ok bs → length bs ≡ length es
 bodied_count [] bytes end bs e =
     let o = cond_ok (eqb (length bytes) 0) (Ok []) (tail (end - length bytes)) bs e in
@@ -62,7 +66,7 @@ ok_or_ok : {A : Type 0} (o : Option A) (f : FileFault) (a : A) → ok_or o f ≡
 ok_or_ok (Some x) f a e = ap Some (ok_same x a e)
 ok_or_ok None f a e = absurd (never a f (sym e))
 
-pub record Headed (count : ℕ) (b : List ℕ) (h : Header) : Type 0 where
+pub record Headed (count : ℕ) (b : List ℕ) (h : Head) : Type 0 where
   pub element : ℕ
   pub bank : ℕ
   pub bytes : b ≡ h.slots ∷ h.threads ∷ element ∷ bank ∷ []
@@ -74,7 +78,27 @@ pub record Headed (count : ℕ) (b : List ℕ) (h : Header) : Type 0 where
 slots_few : (s : ℕ) → slots_right s ≡ true → (1 ≤ s) × (s ≤ 64)
 slots_few s e = grind (arith, nat_tests)
 
-pub headed_ok : (count : ℕ) (b : List ℕ) (place : ℕ) (h : Header) → headed count b place ≡ Ok h → Headed count b h
+false_where : (b : Bool) → (b ≡ true → ⊥) → b ≡ false
+false_where true h = absurd (h refl)
+false_where false h = refl
+
+pub err_case : {A E : Type 0} (r : Result A E) (P : A → Type 0) (Q : E → Type 0) → MatchResult r P Q → false ≡ is_ok r → (e : E) × Q e
+err_case (Ok a) P Q m v = absurd (let z : false ≡ true = v in cc)
+err_case (Err e) P Q m v = (e, m)
+
+-- a shape is refused by its slots where its threads are few
+pub slots_wrong : (s n : ℕ) → Few n → (Few s × Few n → ⊥) → slots_right s ≡ false
+slots_wrong s n few h = false_where (slots_right s) (λ e. h (slots_few s e, few))
+
+pub headed_slots : (count place : ℕ) (b : List ℕ) → length b ≡ 4 → slots_right (get_or b 0 0) ≡ false → headed count b place ≡ Err (body place)
+headed_slots count place [] l e = absurd (omega arith)
+headed_slots count place (s ∷ []) l e = absurd (omega arith)
+headed_slots count place (s ∷ t ∷ []) l e = absurd (omega arith)
+headed_slots count place (s ∷ t ∷ k ∷ []) l e = absurd (omega arith)
+headed_slots count place (s ∷ t ∷ k ∷ m ∷ []) l e = rw e
+headed_slots count place (s ∷ t ∷ k ∷ m ∷ x ∷ more) l e = absurd (omega arith)
+
+pub headed_ok : (count : ℕ) (b : List ℕ) (place : ℕ) (h : Head) → headed count b place ≡ Ok h → Headed count b h
 headed_ok count [] place h e = absurd (never h (body place) (sym e))
 headed_ok count (s ∷ []) place h e = absurd (never h (body place) (sym e))
 headed_ok count (s ∷ t ∷ []) place h e = absurd (never h (body place) (sym e))

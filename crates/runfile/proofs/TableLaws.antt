@@ -30,15 +30,6 @@ pub kind_read : (o : Option BodyKind) (u : UnknownKind) → result_ok (ok_or o u
 kind_read (Some k) u = refl
 kind_read None u = refl
 
--- an entry has five bytes
-pub entries_few : (xs : List ℕ) → 5 * length (entries xs) ≤ length xs
-entries_few [] = omega arith
-entries_few (k ∷ []) = omega arith
-entries_few (k ∷ a ∷ []) = omega arith
-entries_few (k ∷ a ∷ b ∷ []) = omega arith
-entries_few (k ∷ a ∷ b ∷ c ∷ []) = omega arith
-entries_few (k ∷ a ∷ b ∷ c ∷ d ∷ rest) = omega (arith, entries_few rest)
-
 pub entries_length : (k : ℕ) (xs : List ℕ) → length xs ≡ 5 * k → length (entries xs) ≡ k
 entries_length zero [] h = refl
 entries_length (suc k) [] h = absurd (omega arith)

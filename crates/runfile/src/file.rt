@@ -1,11 +1,12 @@
 // Reading a whole run file.
-ghost use Rattle.std.specs.Prelude.{◌≡◌, ℕ, ◌+◌, ◌*◌, ◌≤◌, List, map, length, IfOk};
+ghost use Rattle.std.specs.Prelude.{◌≡◌, ◌+◌, ◌≤◌, map, length, drop, IfOk};
 ghost use Rattle.std.specs.List.{flat_map};
-ghost use Rattle.runfile.specs.Files.{bodies_checked, counted, divided, outcome, parsed, programs_checked, run_checked};
+ghost use Rattle.runfile.specs.Files.{bodies_read, contents_of, count_read, counted, divided, lead_in_in, main_in, outcome, parsed, programs_checked, programs_in, run_checked};
 ghost use Rattle.runfile.specs.Forms.{Formed};
 ghost use Rattle.runfile.specs.Tables.{cut_of, parts};
 
 use super::bodies::Bodies;
+use super::count::Count;
 use super::fault::{Fault, FileRefusal};
 use super::header::{Header, read_header};
 use super::kinds::{BankKind, ElementKind};
@@ -15,15 +16,16 @@ use super::operation::check_programs;
 use super::runs::RunFile;
 use super::schedule::check_schedule;
 use super::table::{check_table, cut_bodies};
+use super::tabled::TabledFile;
 use faults::numbered::Numbered;
 
 // No lawful file is longer.
 pub const LONGEST: usize = 49152;
 
-// The count of table entries, of a file that is not too long and has them all.
-fn read_count(file: &[u8]) -> Result<usize, Fault>
-    ensures value { result ≡ counted file.now }
-    ensures bounds { IfOk result (λ c. (4 ≤ c) × (c ≤ 67) × (1 + 5 * c ≤ length file.now) × (length file.now ≤ 49152)) }
+// A file that is not too long, with its table.
+fn read_table(file: &[u8]) -> Result<TabledFile<'_>, Fault>
+    ensures value { count_read result ≡ counted file.now }
+    ensures same { IfOk result (λ t. t.bytes.now ≡ file.now) }
 {
     if file.len() > LONGEST {
         return Err(FileRefusal::Tail.at(LONGEST));
@@ -31,33 +33,26 @@ fn read_count(file: &[u8]) -> Result<usize, Fault>
     let [count, ..] = file else {
         return Err(FileRefusal::Cut.at(0));
     };
-    let count = *count as usize;
-    if count < 4 || count > 67 {
-        return Err(FileRefusal::Contents.at(0));
-    }
-    if file.len() < 1 + 5 * count {
+    let count = Count::new(*count).ok_or(FileRefusal::Contents.at(0))?;
+    if file.len() < count.table_end() {
         return Err(FileRefusal::Cut.at(file.len()));
     }
-    Ok(count)
+    Ok(TabledFile { bytes: file, count })
 }
 
-// The bodies of a file whose table has `count` entries.
-fn read_bodies(file: &[u8], count: usize) -> Result<Bodies<'_>, Fault>
-    requires { (4 ≤ count) × ((count ≤ 67) × (1 + 5 * count ≤ length file.now)) }
-    ensures value { parts count result ≡ divided count file.now }
-    ensures long { IfOk result (λ b. length b.cuts ≡ 67) }
+// The bodies of a file.
+fn read_bodies<'a>(file: &TabledFile<'a>) -> Result<Bodies<'a>, Fault>
+    ensures { parts file.now.count.entries result ≡ divided file.now.count.entries file.now.bytes.now }
 {
-    let start = 1 + 5 * count;
-    let table = &file[1..start];
-    check_table(table, count)?;
-    cut_bodies(table, &file[start..], file.len())
+    check_table(file)?;
+    cut_bodies(file)
 }
 
 // Refuses programs of one kind of elements at the first wrong operation; answers where they end.
 fn check_kind(element: ElementKind, programs: &[&[u8]], place: usize) -> Result<usize, Fault>
-    requires { place + length (flat_map (λ p. p.now) programs.now) ≤ 49152 }
+    requires { place + length (flat_map (λ p. p) (map (λ p. p.now) programs.now)) ≤ 49152 }
     ensures value { result ≡ programs_checked element (map (λ p. p.now) programs.now) place }
-    ensures end { IfOk result (λ e. e ≡ place + length (flat_map (λ p. p.now) programs.now)) }
+    ensures end { IfOk result (λ e. e ≡ place + length (flat_map (λ p. p) (map (λ p. p.now) programs.now))) }
 {
     match element {
         ElementKind::Number => check_programs::<Number>(programs, place),
@@ -66,37 +61,27 @@ fn check_kind(element: ElementKind, programs: &[&[u8]], place: usize) -> Result<
 }
 
 // Refuses a run at its first wrong operation, then at its first wrong schedule byte; the programs begin at `place`.
-fn check_run(
-    header: &Header,
-    programs: &[&[u8]],
-    lead_in: &[u8],
-    main: &[u8],
-    place: usize,
-) -> Result<(), Fault>
-    requires { place + length (flat_map (λ p. p.now) programs.now) + length lead_in.now + length main.now ≤ 49152 }
-    ensures { result ≡ run_checked header.now (map (λ p. p.now) programs.now) lead_in.now main.now place }
+fn check_run(run: &RunFile, place: usize) -> Result<(), Fault>
+    requires { place + length (flat_map (λ b. b) (drop 1 (contents_of run.now).bodies)) ≤ 49152 }
+    ensures { let c = contents_of run.now in result ≡ run_checked c.header (programs_in c.header.threads c.bodies) (lead_in_in c.header.threads c.bodies) (main_in c.header.threads c.bodies) place }
 {
-    let end = check_kind(header.element, programs, place)?;
-    check_schedule(lead_in, header.threads, end)?;
-    check_schedule(main, header.threads, end + lead_in.len())
+    let threads = run.header.shape.threads();
+    let lead_in = run.lead_in();
+    let end = check_kind(run.header.element, run.programs(), place)?;
+    check_schedule(lead_in, threads, end)?;
+    check_schedule(run.main(), threads, end + lead_in.len())
 }
 
 // Reads the shape body, and refuses the others at their first wrong byte; the bodies begin at `start`.
-fn check_bodies(bodies: &Bodies, count: usize, start: usize) -> Result<Header, Fault>
-    requires count { (4 ≤ count) × (count ≤ 67) }
-    requires long { length bodies.now.cuts ≡ 67 }
-    requires within { start + length (flat_map (λ b. b) (cut_of count bodies.now)) ≤ 49152 }
-    ensures value { result ≡ bodies_checked count (cut_of count bodies.now) start }
-    ensures threads { IfOk result (λ h. h.threads + 3 ≡ count) }
+fn check_bodies<'a>(bodies: Bodies<'a>, count: Count, start: usize) -> Result<RunFile<'a>, Fault>
+    requires { start + length (flat_map (λ b. b) (cut_of count.entries bodies)) ≤ 49152 }
+    ensures { outcome result ≡ bodies_read count.entries (cut_of count.entries bodies.entry) start }
 {
     let shape = bodies.cuts[0];
     let header = read_header(shape, count, start)?;
-    let threads = header.threads as usize;
-    let programs = &bodies.cuts[1..1 + threads];
-    let lead_in = bodies.cuts[1 + threads];
-    let main = bodies.cuts[2 + threads];
-    check_run(&header, programs, lead_in, main, start + shape.len())?;
-    Ok(header)
+    let run = RunFile { header, bodies };
+    check_run(&run, start + shape.len())?;
+    Ok(run)
 }
 
 // The run that a file holds, or the first fault that the checks find in it.
@@ -104,8 +89,7 @@ pub fn read_run(file: &[u8]) -> Result<RunFile<'_>, Fault>
     ensures value { outcome result ≡ parsed file.now }
     ensures form { Formed file.now (outcome result) }
 {
-    let count = read_count(file)?;
-    let bodies = read_bodies(file, count)?;
-    let header = check_bodies(&bodies, count, 1 + 5 * count)?;
-    Ok(RunFile { header, bodies })
+    let file = read_table(file)?;
+    let bodies = read_bodies(&file)?;
+    check_bodies(bodies, file.count, file.count.table_end())
 }

@@ -2,6 +2,7 @@
 #![tactic(auto)]
 
 pub mod bodies;
+mod count;
 pub mod element;
 pub mod fault;
 pub mod file;
@@ -13,3 +14,4 @@ pub mod operation;
 pub mod runs;
 mod schedule;
 mod table;
+mod tabled;

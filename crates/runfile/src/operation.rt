@@ -59,9 +59,9 @@ pub(crate) fn check_program<E: Element>(program: &[u8], place: usize) -> Result<
 
 // Refuses programs that stand one after another from `place` on, at the first wrong operation; answers where they end.
 pub(crate) fn check_programs<E: Element>(programs: &[&[u8]], place: usize) -> Result<usize, Fault>
-    requires { place + length (flat_map (λ p. p.now) programs.now) ≤ 49152 }
+    requires { place + length (flat_map (λ p. p) (map (λ p. p.now) programs.now)) ≤ 49152 }
     ensures value { result ≡ programmed E.Element.format (map (λ p. p.now) programs.now) place }
-    ensures end { IfOk result (λ e. e ≡ place + length (flat_map (λ p. p.now) programs.now)) }
+    ensures end { IfOk result (λ e. e ≡ place + length (flat_map (λ p. p) (map (λ p. p.now) programs.now))) }
 {
     let mut at = place;
     for program in programs {

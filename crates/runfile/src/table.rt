@@ -1,11 +1,14 @@
 // The table of contents: an entry a body, of a kind byte and four bytes of the body's length.
-ghost use Rattle.std.specs.Prelude.{◌≡◌, ◌+◌, ◌*◌, ◌^◌, ◌<◌, ◌≤◌, [], ◌∷◌, length, IfOk, MatchOption};
+ghost use Rattle.std.specs.Prelude.{◌≡◌, ◌+◌, ◌*◌, length, drop};
 ghost use Rattle.std.specs.Iterator.{YieldsFirst, item_count};
-ghost use Rattle.runfile.specs.Tables.{bodied, entries, expected, parts, right, tabled};
+ghost use Rattle.runfile.specs.Files.{table};
+ghost use Rattle.runfile.specs.Tables.{bodied, entries, parts, right, tabled};
 
 use super::bodies::Bodies;
+use super::count::Count;
 use super::fault::{Fault, FileRefusal};
 use super::kinds::BodyKind;
+use super::tabled::TabledFile;
 use faults::numbered::Numbered;
 
 #[derive(Clone, Copy)]
@@ -37,56 +40,33 @@ impl Iterator for Entries<'_> {
     }
 }
 
-// The kind that an entry has to have: the shape, then the programs, then the two schedules.
-fn expected_kind(index: usize, count: usize) -> BodyKind
-    requires { 4 ≤ count }
-    ensures { result ≡ expected count index }
-{
-    if index == 0 {
-        BodyKind::Shape
-    } else if index < count - 2 {
-        BodyKind::Program
-    } else if index == count - 2 {
-        BodyKind::LeadIn
-    } else {
-        BodyKind::Main
-    }
-}
-
 // Whether an entry has its kind, and the shape's entry its length of four bytes.
-fn is_right(entry: Entry, index: usize, count: usize) -> bool
-    requires { 4 ≤ count }
-    ensures { result ≡ right count index entry }
+fn is_right(entry: Entry, index: usize, count: Count) -> bool
+    ensures { result ≡ right count.entries index entry }
 {
-    entry.kind == Some(expected_kind(index, count)) && (index != 0 || entry.size == 4)
+    entry.kind == Some(count.kind_at(index)) && (index != 0 || entry.size == 4)
 }
 
 // Refuses a table at its first wrong entry.
-pub(crate) fn check_table(table: &[u8], count: usize) -> Result<(), Fault>
-    requires { (4 ≤ count) × (length table.now ≤ 335) }
-    ensures { result ≡ tabled count 0 (entries table.now) }
+pub(crate) fn check_table(file: &TabledFile) -> Result<(), Fault>
+    ensures { result ≡ tabled file.now.count.entries 0 (entries (table file.now.count.entries file.now.bytes.now)) }
 {
-    for (index, entry) in Entries(table).enumerate() {
-        if !is_right(entry, index, count) {
+    for (index, entry) in Entries(file.table()).enumerate() {
+        if !is_right(entry, index, file.count) {
             return Err(FileRefusal::Contents.at(1 + 5 * index));
         }
     }
     Ok(())
 }
 
-// The bodies that a table speaks of, up to the end of the file, which is `end` bytes long.
-pub(crate) fn cut_bodies<'a>(
-    table: &[u8],
-    bodies: &'a [u8],
-    end: usize,
-) -> Result<Bodies<'a>, Fault>
-    requires { (length table.now ≤ 335) × (length bodies.now ≤ end) }
-    ensures value { parts (length (entries table.now)) result ≡ bodied (entries table.now) bodies.now end }
-    ensures long { IfOk result (λ b. length b.cuts ≡ 67) }
+// The bodies that a table speaks of, up to the end of the file.
+pub(crate) fn cut_bodies<'a>(file: &TabledFile<'a>) -> Result<Bodies<'a>, Fault>
+    ensures { parts file.now.count.entries result ≡ bodied (entries (table file.now.count.entries file.now.bytes.now)) (drop (1 + 5 * file.now.count.entries) file.now.bytes.now) (length file.now.bytes.now) }
 {
-    let mut cuts = [&bodies[0..0]; 67];
-    let mut left = bodies;
-    for (index, entry) in Entries(table).enumerate() {
+    let end = file.bytes.len();
+    let mut left = file.bodies();
+    let mut cuts = [&left[0..0]; 67];
+    for (index, entry) in Entries(file.table()).enumerate() {
         let size = entry.size as usize;
         let (body, more) = left.split_at_checked(size).ok_or(FileRefusal::Cut.at(end))?;
         cuts[index] = body;

@@ -1,49 +1,37 @@
-use Rattle.std.proofs.Common.{◌+◌, ◌-◌, Ok, sym, ap, ◌∙◌, arith}
+use Rattle.std.proofs.Common.{◌<◌, length, sym, refl, ap, arith, length-take}
+use Rattle.std.proofs.lemmas.List.{length-map}
 use Rattle.std.proofs.lemmas.Result.{err_from_is_err_and}
-use Rattle.runfile.specs.Chains.{chain}
+use Rattle.runfile.specs.declared.runs.RunFile.{RunFile}
 use Rattle.runfile.specs.Tables.{cut_of}
-use Rattle.runfile.proofs.CutLaws.{cut_at, shape_fault, cut_room, cut_checked}
+use Rattle.runfile.proofs.CutLaws.{cut_at, joined_first, shape_fault, run_read}
 use Rattle.runfile.proofs.file.check_bodies.Goals as goal
 
 pub returns-in_err-header : goal.returns-in_err-header
 returns-in_err-header c =
     let p = err_from_is_err_and c.from_residual.result c.from_residual.ensures.1 in
-    let e = c.in_err-header.ensures.value in
-    let l = c.requires.long in
-    let k = c.requires.count in
-    let s = cut_at c.args.bodies.now.cuts c.args.count 0 (omega arith) (omega arith) in
-    record {
-      value = rw (p.1, p.2) (sym (shape_fault c.args.count c.args.start (cut_of c.args.count c.args.bodies.now) _ s c.in_err-header.field-0.0 e));
-      threads = rw p.1 tt;
-    }
+    let n = c.args.count in
+    let l = c.args.bodies.long in
+    let s = cut_at c.args.bodies.cuts n.entries 0 (omega arith) (omega arith) in
+    rw (p.1, p.2) (sym (shape_fault n.entries c.args.start (cut_of n.entries c.args.bodies) _ s c.in_err-header.field-0.0 c.in_err-header.ensures.value))
 
 pub check_run-requires : goal.check_run-requires
 check_run-requires c =
-    let l = c.requires.long in
-    let k = c.requires.count in
-    let t = c.in_ok-header.ensures.threads in
-    cut_room c.args.bodies.now.cuts c.args.count c.args.start (omega arith) c.in_ok-header.header.threads _ t (omega arith) c.requires.within
+    let n = c.args.count in
+    let l = c.args.bodies.long in
+    let some : 0 < length (cut_of n.entries c.args.bodies) = simp (length-take, length-map) (omega arith) in
+    let j = joined_first (cut_of n.entries c.args.bodies) some in
+    let s = ap length (cut_at c.args.bodies.cuts n.entries 0 (omega arith) (omega arith)) in
+    rw c.in_ok-header.ensures.threads (omega arith)
 
 pub returns-in_err-check_run : goal.returns-in_err-check_run
 returns-in_err-check_run c =
     let p = err_from_is_err_and c.from_residual-in_err-check_run.result c.from_residual-in_err-check_run.ensures.1 in
-    let l = c.requires.long in
-    let k = c.requires.count in
-    let h = c.in_ok-header.header in
-    let t = c.in_ok-header.ensures.threads in
-    let v = cut_checked c.args.bodies.now.cuts c.args.count c.args.start (omega arith) h (1 + h.threads - 1) t (omega arith) c.in_ok-header.ensures.value in
-    let e = c.in_err-check_run.ensures in
-    record {
-      value = rw (p.1, p.2) (sym (v ∙ ap (λ r. chain r (λ _. Ok h)) (sym e)));
-      threads = rw p.1 tt;
-    }
+    let f : RunFile = record { header = c.in_ok-header.header; bodies = c.args.bodies } in
+    let e = c.in_ok-header.ensures in
+    rw (p.1, p.2) (sym (run_read f c.args.count.entries c.args.start _ _ e.threads refl e.value c.in_err-check_run.ensures))
 
 pub returns : goal.returns
 returns c =
-    let l = c.requires.long in
-    let k = c.requires.count in
-    let h = c.in_ok-header.header in
-    let t = c.in_ok-header.ensures.threads in
-    let v = cut_checked c.args.bodies.now.cuts c.args.count c.args.start (omega arith) h (1 + h.threads - 1) t (omega arith) c.in_ok-header.ensures.value in
-    let e = c.in_ok-check_run.ensures in
-    record { value = sym (v ∙ ap (λ r. chain r (λ _. Ok h)) (sym e)); threads = t }
+    let f : RunFile = record { header = c.in_ok-header.header; bodies = c.args.bodies } in
+    let e = c.in_ok-header.ensures in
+    sym (run_read f c.args.count.entries c.args.start _ _ e.threads refl e.value c.in_ok-check_run.ensures)

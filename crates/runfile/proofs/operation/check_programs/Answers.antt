@@ -10,8 +10,8 @@ abbrev nothing : Bor (List ℕ)
 nothing = record { ref_ptr = (0, 0); now = [] }
 
 -- what is left is the program at hand and what is left after it
-left-more : (ps : List (Bor (List ℕ))) (i : ℕ) → i < length ps → length (flat_map (λ p. p.now) (drop i ps)) ≡ length (get_or ps i nothing).now + length (flat_map (λ p. p.now) (drop (i + 1) ps))
-left-more ps i h = at_drop_more (λ l. length (flat_map (λ p. p.now) l)) ps i nothing h ∙ length-append (get_or ps i nothing).now (flat_map (λ p. p.now) (drop (i + 1) ps))
+left-more : (ps : List (Bor (List ℕ))) (i : ℕ) → i < length ps → length (flat_map (λ p. p) (map (λ p. p.now) (drop i ps))) ≡ length (get_or ps i nothing).now + length (flat_map (λ p. p) (map (λ p. p.now) (drop (i + 1) ps)))
+left-more ps i h = at_drop_more (λ l. length (flat_map (λ p. p) (map (λ p. p.now) l))) ps i nothing h ∙ length-append (get_or ps i nothing).now (flat_map (λ p. p) (map (λ p. p.now) (drop (i + 1) ps)))
 
 pub check_program-requires : goal.check_program-requires
 check_program-requires g c =
@@ -37,5 +37,5 @@ loop-program-preserved g c =
 pub returns : goal.returns
 returns g c =
     let m = at_drop_all (λ l. programmed g.E.Element.format (map (λ p. p.now) l) c.loop-program.at) c.args.programs.now c.loop-program.program-index c.loop-program-test.false in
-    let n = at_drop_all (λ l. length (flat_map (λ p. p.now) l)) c.args.programs.now c.loop-program.program-index c.loop-program-test.false in
+    let n = at_drop_all (λ l. length (flat_map (λ p. p) (map (λ p. p.now) l))) c.args.programs.now c.loop-program.program-index c.loop-program-test.false in
     record { value = sym (c.loop-program.invariant.0 ∙ m); end = omega (arith, c.loop-program.invariant.1) }

@@ -7,4 +7,4 @@ abbrev pub invariant-loop-program : goal.invariant-loop-program
 invariant-loop-program g l =
     (programmed g.E.Element.format (map (λ p. p.now) l.programs) l.initial.at
     ≡ programmed g.E.Element.format (map (λ p. p.now) (drop l.program-index l.programs)) l.at)
-    × (l.at + length (flat_map (λ p. p.now) (drop l.program-index l.programs)) ≡ l.initial.at + length (flat_map (λ p. p.now) l.programs))
+    × (l.at + length (flat_map (λ p. p) (map (λ p. p.now) (drop l.program-index l.programs))) ≡ l.initial.at + length (flat_map (λ p. p) (map (λ p. p.now) l.programs)))
