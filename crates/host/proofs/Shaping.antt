@@ -1,5 +1,5 @@
 -- The shape of a file that was accepted, and buffers cut to it.
-use Rattle.std.proofs.Common.{◌≡◌, ℕ, ◌≤◌, List, take, sym, ap, ◌∙◌, subst, arith}
+use Rattle.std.proofs.Common.{◌≡◌, ℕ, ◌≤◌, List, length, take, IfOk, Result, sym, ap, ◌∙◌, subst, arith}
 use native.Mathlib.Bridge.{le_prop}
 use Rattle.turns.specs.declared.shape.Shape.{Shape}
 use Rattle.turns.specs.Shapes.{Few}
@@ -11,7 +11,8 @@ use Rattle.turns.specs.Rows.{cleared}
 use Rattle.world.specs.Calls.{new_table}
 use Rattle.world.specs.Worlds.{world}
 use Rattle.play.specs.Runs.{ran}
-use Rattle.host.specs.Tells.{bounded, cycle_of, shape_of, told_in, told_run}
+use Rattle.host.specs.declared.fault.Fault.{Fault}
+use Rattle.host.specs.Tells.{Faithful, Writes, bounded, cycle_of, shape_of, told_in, told_run}
 
 bounded_is : (n : ℕ) → Few n → bounded n ≡ n
 bounded_is n few = omega arith
@@ -45,3 +46,13 @@ told_cut form printed room cycle c s cells cells' hands hands' entries e k g h =
     ∙ ap (λ xs. told_run printed s room (ran form cycle c s (world cleared (new_table s) (take s.slots cells) xs entries))) h
     ∙ ap (λ m. told_run printed s room (ran form m c s (world cleared (new_table s) (take s.slots cells) (take s.threads hands) entries))) k
     ∙ ap (λ t. told_run printed t room (ran form (cycle_of c.header.bank) c t (world cleared (new_table t) (take t.slots cells) (take t.threads hands) entries))) e
+
+-- what is written of such a run is what is told of the file
+pub at_file : {T : Type 0} (form : Format T) (printed : T → List ℕ) (cycle : ℕ) (c : Contents) (s : Shape) (cells cells' : List (Cell T)) (hands hands' : List T) (entries : List (Entry T)) (r : Result ℕ Fault) (before after : List ℕ) →
+    s ≡ shape_of c → cycle ≡ cycle_of c.header.bank → cells' ≡ take s.slots cells → hands' ≡ take s.threads hands →
+    Writes r before after (told_run printed s (length before) (ran form cycle c s (world cleared (new_table s) cells' hands' entries))) → IfOk r (λ size. Faithful printed cycle s (take size after)) →
+    Writes r before after (told_in form printed (length before) c cells hands entries) × IfOk r (λ size. Faithful printed (cycle_of c.header.bank) (shape_of c) (take size after))
+at_file form printed cycle c s cells cells' hands hands' entries r before after e k g h writes faithful = (
+  subst (Writes r before after) (told_cut form printed (length before) cycle c s cells cells' hands hands' entries e k g h) writes,
+  subst (λ (t : Shape). IfOk r (λ size. Faithful printed (cycle_of c.header.bank) t (take size after))) e (subst (λ (m : ℕ). IfOk r (λ size. Faithful printed m s (take size after))) k faithful),
+)

@@ -1,5 +1,6 @@
 -- What is told of a run whose report was written.
 use Rattle.std.proofs.Common.{◌≡◌, ℕ, ◌+◌, ◌*◌, ◌≤◌, Bool, true, false, cond, eqb, ltb, List, map, length, take, drop, IfOk, Ok, Err, Result, sym, refl, ap, ◌∙◌, subst, arith}
+use Rattle.std.specs.Result.{MatchResult, IsErrAnd}
 use Rattle.std.proofs.lemmas.List.{take_at}
 use Rattle.std.proofs.lemmas.Bool.{ltb-false}
 use Rattle.text.specs.Areas.{put}
@@ -13,9 +14,12 @@ use Rattle.world.specs.declared.refusal.Refusal.TheVariants.{Misfit, ShortCycle}
 use Rattle.world.specs.declared.table.Table.{Table}
 use Rattle.world.specs.Calls.{empty_cell, new_table}
 use Rattle.report.specs.declared.counts.Counts.{Counts}
-use Rattle.report.specs.Reports.{pieces_of, report_text, reported, text_of}
+use Rattle.report.specs.Reports.{fitting, pieces_of, report_text, reported, text_of}
 use Rattle.world.specs.Worlds.{World, world}
 use Rattle.host.specs.declared.fault.Fault.{Fault}
+use Rattle.host.specs.declared.fault.Fault.TheVariants.{Report}
+use Rattle.text.specs.declared.refusal.AreaRefusal.{AreaRefusal}
+use Rattle.text.specs.declared.refusal.AreaRefusal.TheVariants.{ShortArea}
 use Rattle.faults.specs.declared.fault.Fault.{Fault as FaultOf}
 use Rattle.world.specs.declared.refusal.Refusal.{Refusal}
 use Rattle.play.specs.Plays.{Played}
@@ -34,12 +38,30 @@ by_test false x y e h = (refl, cc)
 pub by_false : {A : Type 0} (b : Bool) (x y : A) → b ≡ false → cond b x y ≡ y
 by_false b x y e = ap (λ t. cond t x y) e
 
+-- a refused one
+by_error : {A E : Type 0} (b : Bool) (x e : E) (y : A) → Err e ≡ cond b (Err x) (Ok y) → (b ≡ true) × (e ≡ x)
+by_error true x e y h = (refl, cc)
+by_error false x e y h = absurd (let z : ◌≡◌ {A = ℕ} 0 1 = cc in omega arith)
+
+by_true : {A : Type 0} (b : Bool) (x y : A) → b ≡ true → cond b x y ≡ x
+by_true b x y e = ap (λ t. cond t x y) e
+
 -- nothing is written where a refusal is told
 pub refused_writes : (r : Result ℕ Fault) (x : Fault) (before after : List ℕ) (t : Result (List ℕ) Fault) → r ≡ Err x → t ≡ Err x → Writes r before after t
 refused_writes r x before after t e h = subst (λ (q : Result ℕ Fault). Writes q before after t) (sym e) h
 
 pub none_made : (P : ℕ → Type 0) (r : Result ℕ Fault) (x : Fault) → r ≡ Err x → IfOk r P
 none_made P r x e = subst (λ (q : Result ℕ Fault). IfOk q P) (sym e) tt
+
+-- what came up as accepted was accepted below
+pub came : {A E : Type 0} (D : Type 0) (r : Result A E) (v : A) → MatchResult r (λ x. ◌≡◌ {A = Result A D} (Ok v) (Ok x)) (λ _. ⊥) → r ≡ Ok v
+came D (Ok x) v h = let e : x ≡ v = cc in ap Ok e
+came D (Err e) v h = absurd h
+
+-- and what came up as refused was refused
+pub went : {A E X : Type 0} (wrap : E → X) (r : Result A E) (x : X) → MatchResult r (λ y. ◌≡◌ {A = Result A X} (Err x) (Ok y)) (λ e. x ≡ wrap e) → (e : E) × (r ≡ Err e) × (x ≡ wrap e)
+went wrap (Ok y) x h = absurd (let z : ◌≡◌ {A = ℕ} 0 1 = cc in omega arith)
+went wrap (Err e) x h = (e, refl, h)
 
 -- what is told of a run does not depend on what the machine was before its opening
 module _ {T : Type 0} (form : Format T) (printed : T → List ℕ) (room cycle : ℕ) (c : Contents) (shape : Shape) (row : List ℕ) (table : Table) (cells : List (Cell T)) (hands : List T) (entries : List (Entry T)) where
@@ -68,17 +90,39 @@ module _ {T : Type 0} (printed : T → List ℕ) (shape : Shape) (w : World T) (
   pub asked_text_lem : asked_text ≡ text_in printed shape w
   asked_text_lem = let z = used_is in let p = counts_are in cc
 
-  -- what is told of the run is that text, where the report was written
-  module _ (room : ℕ) (p : Played T) (ok : Ok tt ≡ p.0) (same : w ≡ p.1) (size : ℕ) (answer : Ok size ≡ reported room asked) where
-    fits : (ltb room (length (text_of asked)) ≡ false) × (size ≡ length (text_of asked))
-    fits = by_test (ltb room (length (text_of asked))) size (length (text_of asked)) _ answer
+  -- what is told of a run that ended well, and what is written of it, as the report's fault comes up
+  module _ (room : ℕ) (p : Played T) (ok : Ok tt ≡ p.0) (same : w ≡ p.1) where
+    told_same : told_run printed shape room p ≡ report_in printed shape room w
+    told_same = ap (λ (r : Result (Unit {0}) (FaultOf Refusal)). told_end printed shape room r p.1) (sym ok) ∙ ap (report_in printed shape room) (sym same)
 
-    pub size_within : size ≤ room
-    size_within = let l = ltb-false room (length (text_of asked)) fits.0 in let e = fits.1 in omega arith
+    test_same : ltb room (length (text_of (pieces_in printed shape w))) ≡ ltb room (length (text_of asked))
+    test_same = ap (λ xs. ltb room (length (text_of xs))) (sym asked_is)
 
-    pub told_text : told_run printed shape room p ≡ Ok asked_text
-    told_text =
-        ap (λ (r : Result (Unit {0}) (FaultOf Refusal)). told_end printed shape room r p.1) (sym ok)
-        ∙ ap (report_in printed shape room) (sym same)
-        ∙ by_false _ _ _ (ap (λ xs. ltb room (length (text_of xs))) (sym asked_is) ∙ fits.0)
-        ∙ ap (λ (t : List ℕ). Ok t) (sym asked_text_lem)
+    told_short : (e : FaultOf AreaRefusal) → Err e ≡ reported room asked → told_run printed shape room p ≡ Err (Report e)
+    told_short e answer =
+        let f = by_error (ltb room (length (text_of asked))) _ e _ answer in
+        told_same
+        ∙ by_true _ _ _ (test_same ∙ f.0)
+        ∙ ap (λ xs. Err (Report (record { refusal = ShortArea; place = length (text_of (fitting room xs)) }))) (sym asked_is)
+        ∙ ap (λ x. Err (Report x)) (sym f.1)
+
+    module _ (size : ℕ) (answer : Ok size ≡ reported room asked) where
+      fits : (ltb room (length (text_of asked)) ≡ false) × (size ≡ length (text_of asked))
+      fits = by_test (ltb room (length (text_of asked))) size (length (text_of asked)) _ answer
+
+      size_within : size ≤ room
+      size_within = let l = ltb-false room (length (text_of asked)) fits.0 in let e = fits.1 in omega arith
+
+      told_text : told_run printed shape room p ≡ Ok asked_text
+      told_text = told_same ∙ by_false _ _ _ (test_same ∙ fits.0) ∙ ap (λ (t : List ℕ). Ok t) (sym asked_text_lem)
+
+  pub reported_up : (p : Played T) → Ok tt ≡ p.0 → w ≡ p.1 → (before after : List ℕ) (P : List ℕ → Type 0) → ((text : List ℕ) → text ≡ text_in printed shape w → P text) → (r : Result ℕ (FaultOf AreaRefusal)) (q : Result ℕ Fault) →
+      MatchResult r (λ x. q ≡ Ok x) (λ e. IsErrAnd q (λ y. y ≡ Report e)) → r ≡ reported (length before) asked → IfOk r (λ size. (size ≡ length asked_text) × (after ≡ put before 0 asked_text)) →
+      Writes q before after (told_run printed shape (length before) p) × IfOk q (λ size. P (take size after))
+  reported_up p ok same before after P h (Ok size) q up answer whole =
+      let room = length before in (
+        subst (λ (x : Result ℕ Fault). Writes x before after (told_run printed shape room p)) (sym up) (asked_text, told_text room p ok same size answer, whole.0, size_within room p ok same size answer, whole.1),
+        subst (λ (x : Result ℕ Fault). IfOk x (λ n. P (take n after))) (sym up) (h _ (put_first before asked_text after size whole.0 whole.1 ∙ asked_text_lem)),
+      )
+  reported_up p ok same before after P h (Err e) (Ok x) up answer whole = absurd up
+  reported_up p ok same before after P h (Err e) (Err y) up answer whole = (told_short (length before) p ok same e answer ∙ ap (λ z. Err z) (sym up), tt)

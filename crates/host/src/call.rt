@@ -55,6 +55,9 @@ pub fn queue_bench_play(file: &[u8], area: &mut [u8]) -> i64
     area.fill(0);
     match play_file(file, area) {
         Ok(length) => length as i64,
-        Err(fault) => write_refusal(area, fault).map_or(NO_ROOM, |length| length as i64),
+        Err(fault) => match write_refusal(area, fault) {
+            Ok(length) => length as i64,
+            Err(_) => NO_ROOM,
+        },
     }
 }

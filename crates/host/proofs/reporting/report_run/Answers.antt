@@ -1,14 +1,19 @@
-use Rattle.std.proofs.Common.{length, Err, Result, sym, ap, ◌∙◌}
+use Rattle.std.proofs.Common.{◌≡◌, ℕ, List, length, OnOk, Err, Result, sym, ap, ◌∙◌, subst}
 use Rattle.std.proofs.lemmas.Result.{err_from_is_err_and}
+use Rattle.faults.specs.declared.fault.Fault.{Fault as FaultOf}
+use Rattle.report.specs.declared.counts.Counts.{Counts}
 use Rattle.runfile.specs.Files.{contents_of}
+use Rattle.world.specs.declared.refusal.Refusal.{Refusal}
+use Rattle.world.specs.Calls.{new_world}
 use Rattle.world.specs.Worlds.{world}
-use Rattle.play.specs.Runs.{ran}
-use Rattle.host.specs.Tells.{told_end}
-use Rattle.host.proofs.Telling.{asked_text_lem, none_made, put_first, refused_writes, size_within, told_anyway, told_text}
+use Rattle.play.specs.Runs.{Reached, ran}
+use Rattle.host.specs.declared.fault.Fault.TheVariants.{Machine}
+use Rattle.host.specs.Tells.{Faithful, Writes, counts_in, text_in, told_end}
+use Rattle.host.proofs.Telling.{came, none_made, refused_writes, reported_up, told_anyway, went}
 use Rattle.host.proofs.reporting.report_run.Goals as goal
 
-pub returns-in_err-play_run : goal.returns-in_err-play_run
-returns-in_err-play_run g c =
+pub returns-in_err-map_err : goal.returns-in_err-map_err
+returns-in_err-map_err g c =
     let form = g.E.Element.format in
     let printed = g.E.Element.printed in
     let cycle = g.B.Bank.CYCLE in
@@ -19,9 +24,10 @@ returns-in_err-play_run g c =
     let p = ran form cycle run shape (world (g.B.Bank.row m.bank) m.table c.args.cells.now c.args.hands.now c.args.entries.now) in
     let anyway = told_anyway form printed room cycle run shape (g.B.Bank.row m.bank) m.table c.args.cells.now c.args.hands.now c.args.entries.now in
     let up = err_from_is_err_and c.from_residual.result c.from_residual.ensures.1 in
-    let refused = ap (λ q. q.0) c.in_err-play_run.ensures.answer in
+    let fault = went Machine c.play_run.result _ c.in_err-map_err.ensures.cases in
+    let refused = sym fault.1 ∙ ap (λ q. q.0) c.play_run.ensures.answer in
     record {
-      writes = refused_writes c.from_residual.result up.0 _ _ _ up.1 (sym anyway ∙ ap (λ (r : Result (Unit {0}) RunFault). told_end printed shape room r p.1) (sym refused) ∙ ap (λ f. Err f) (sym up.2));
+      writes = refused_writes c.from_residual.result up.0 _ _ _ up.1 (sym anyway ∙ ap (λ (r : Result (Unit {0}) (FaultOf Refusal)). told_end printed shape room r p.1) (sym refused) ∙ ap (λ f. Err f) (sym fault.2 ∙ sym up.2));
       faithful = none_made _ c.from_residual.result up.0 up.1;
     }
 
@@ -30,28 +36,19 @@ returns g c =
     let m = c.play_run.new.machine in
     let w = world (g.B.Bank.row m.bank) m.table c.play_run.new.cells c.play_run.new.hands c.play_run.new.entries in
     let printed = g.E.Element.printed in
+    let cycle = g.B.Bank.CYCLE in
     let shape = c.args.shape in
-    let played = c.in_ok-play_run.ensures in
-    let report = c.in_ok-length.ensures in
     let room = length c.args.area.now in
     let made = c.new-machine.result in
     let before = world (g.B.Bank.row made.bank) made.table c.args.cells.now c.args.hands.now c.args.entries.now in
-    let p = ran g.E.Element.format g.B.Bank.CYCLE (contents_of c.args.run.now) shape before in
-    let anyway = told_anyway g.E.Element.format printed room g.B.Bank.CYCLE (contents_of c.args.run.now) shape (g.B.Bank.row made.bank) made.table c.args.cells.now c.args.hands.now c.args.entries.now in
-    record {
-      writes = (
-        _,
-        sym anyway ∙ told_text printed shape w c.used.result c.pushes.result c.pops.result c.waiting.result c.used.ensures c.pushes.ensures c.pops.ensures c.waiting.ensures room p (ap (λ q. q.0) played.answer) (ap (λ q. q.1) played.answer) c.in_ok-length.length report.answer,
-        report.whole.0,
-        size_within printed shape w c.used.result c.pushes.result c.pops.result c.waiting.result c.used.ensures c.pushes.ensures c.pops.ensures c.waiting.ensures room p (ap (λ q. q.0) played.answer) (ap (λ q. q.1) played.answer) c.in_ok-length.length report.answer,
-        report.whole.1,
-      );
-      faithful = record {
-        cells = c.args.cells.now;
-        hands = c.args.hands.now;
-        entries = c.args.entries.now;
-        w = w;
-        reached = played.reached;
-        report = put_first c.args.area.now _ c.write_report.new.area c.in_ok-length.length report.whole.0 report.whole.1 ∙ asked_text_lem printed shape w c.used.result c.pushes.result c.pops.result c.waiting.result c.used.ensures c.pushes.ensures c.pops.ensures c.waiting.ensures;
-      };
-    }
+    let p = ran g.E.Element.format cycle (contents_of c.args.run.now) shape before in
+    let anyway = told_anyway g.E.Element.format printed room cycle (contents_of c.args.run.now) shape (g.B.Bank.row made.bank) made.table c.args.cells.now c.args.hands.now c.args.entries.now in
+    let played = c.play_run.ensures in
+    let done = came _ c.play_run.result tt c.in_ok-map_err.ensures.cases in
+    let reached = subst (λ (r : Result (Unit {0}) (FaultOf Refusal)). OnOk r (Reached cycle (new_world shape c.args.cells.now c.args.hands.now c.args.entries.now) w)) done played.reached in
+    let report = c.write_report.ensures in
+    let faithful : (text : List ℕ) → text ≡ text_in printed shape w → Faithful printed cycle shape text = λ text e. record { cells = c.args.cells.now; hands = c.args.hands.now; entries = c.args.entries.now; w = w; reached = reached; report = e } in
+    let counts : Counts = record { pushes = c.pushes.result; pops = c.pops.result; waiting = c.waiting.result } in
+    let counts_are : counts ≡ counts_in w = λ i. record { pushes = c.pushes.ensures i; pops = c.pops.ensures i; waiting = c.waiting.ensures i } in
+    let up = reported_up printed shape w c.used.result counts c.used.ensures counts_are p (sym done ∙ ap (λ q. q.0) played.answer) (ap (λ q. q.1) played.answer) c.args.area.now c.write_report.new.area (Faithful printed cycle shape) faithful c.write_report.result c.map_err-2.result c.map_err-2.ensures.cases report.answer report.whole in
+    record { writes = subst (Writes c.map_err-2.result c.args.area.now c.write_report.new.area) anyway up.0; faithful = up.1 }
