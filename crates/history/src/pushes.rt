@@ -9,9 +9,8 @@ use turns::ticket::Ticket;
 pub fn first_push<E: Copy>(entries: &[Entry<E>], used: usize, ticket: Ticket) -> Option<E>
     ensures { result ≡ first_push (take used entries.now) ticket }
 {
-    entries
+    entries[..used.min(entries.len())]
         .iter()
-        .take(used)
         .find(|entry| entry.kind == Kind::Push && entry.ticket == ticket)
         .map(|entry| entry.element)
 }
