@@ -1,4 +1,3 @@
 pub mod Finding
-pub mod Ahead
 pub mod Replaying
 pub mod Searching

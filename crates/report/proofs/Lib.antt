@@ -1,4 +1,2 @@
-pub mod Behind
-pub mod Composing
 pub mod Unspelling
 pub mod Writing

@@ -170,10 +170,3 @@ module _ {T : Type 0} (text : T → List ℕ) (shape : Shape) (entries : List (E
       let a : q ≡ reported (length xs) pieces = qr ∙ ap (λ w. w.0) e in
       let b : ys ≡ put xs 0 (text_of (fitting (length xs) pieces)) = ap (λ w. w.1) e in
       (a, b, finished xs ys whole q pieces pieces_text a b)
-
--- one entry of what is still to be written
-pub body_more : {T : Type 0} (text : T → List ℕ) (es xs : List (Entry T)) (x : Entry T) (counts : Counts) → es ≡ x ∷ xs → body_of text es counts ≡ line_for text x ∷ body_of text xs counts
-body_more text es xs x counts e = ap (λ ys. body_of text ys counts) e
-
-pub body_none : {T : Type 0} (text : T → List ℕ) (es : List (Entry T)) (counts : Counts) → es ≡ [] → body_of text es counts ≡ closing_line counts.pushes counts.pops counts.waiting ∷ []
-body_none text es counts e = ap (λ ys. body_of text ys counts) e

@@ -28,7 +28,8 @@ pub fn write_report<E: Element>(
     ensures numbers { NumbersTold }
 {
     let mut report = NewReport::new().heading(area, shape)?;
-    for entry in entries.iter().take(used) {
+    let used_entries = &entries[..used.min(entries.len())];
+    for entry in used_entries {
         if let Err(refusal) = report.entry(area, *entry) {
             return Err(refusal.at(report.abandon()));
         }
