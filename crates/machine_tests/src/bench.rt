@@ -127,9 +127,7 @@ pub(crate) fn make<B: Bank>(
     hands: &mut [u32],
     entries: &mut [Entry<u32>],
 ) -> Answer {
-    answered(machine, call, cells, hands, entries).unwrap_or_else(|refusal| Answer::Refused(
-        refusal,
-    ))
+    answered(machine, call, cells, hands, entries).unwrap_or_else(Answer::Refused)
 }
 
 // Makes a call with the first so many of each buffer.
