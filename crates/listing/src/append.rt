@@ -1,14 +1,8 @@
-// Text that grows: each piece goes behind what is there.
+// A number at the end of a text that grows.
 ghost use Rattle.std.specs.Prelude.{◌≡◌, ◌++◌, decimal, OnOk};
 
 use std::alloc::AllocError;
 use text::holder::Text;
-
-pub(crate) fn append_bytes(out: &mut Vec<u8>, piece: &[u8]) -> Result<(), AllocError>
-    ensures { OnOk result (out.new.items ≡ out.old.items ++ piece.now) }
-{
-    out.extend_from_slice(piece)
-}
 
 pub(crate) fn append_decimal(out: &mut Vec<u8>, n: u64) -> Result<(), AllocError>
     ensures { OnOk result (out.new.items ≡ out.old.items ++ decimal n) }
@@ -16,5 +10,5 @@ pub(crate) fn append_decimal(out: &mut Vec<u8>, n: u64) -> Result<(), AllocError
     let mut text = Text::new();
     // At most 20 digits, so the text has room.
     let _ = text.push_decimal(n);
-    append_bytes(out, text.as_bytes())
+    out.extend_from_slice(text.as_bytes())
 }

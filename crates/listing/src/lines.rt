@@ -4,7 +4,7 @@ ghost use Rattle.std.specs.List.{flat_map};
 ghost use Rattle.runfile.specs.Programs.{operations_of};
 ghost use Rattle.listing.specs.Listings.{operation_text, program_line, schedule_line};
 
-use super::append::{append_bytes, append_decimal};
+use super::append::append_decimal;
 use runfile::element::Element;
 use runfile::operation::{Operation, read_operation};
 use std::alloc::AllocError;
@@ -17,11 +17,11 @@ fn append_operation<E: Element>(
 {
     match operation {
         Operation::Push(element) => {
-            append_bytes(out, b" push ")?;
+            out.extend_from_slice(b" push ")?;
             let text = element.text();
-            append_bytes(out, text.as_bytes())
+            out.extend_from_slice(text.as_bytes())
         }
-        Operation::Pop => append_bytes(out, b" pop"),
+        Operation::Pop => out.extend_from_slice(b" pop"),
     }
 }
 
@@ -32,12 +32,12 @@ pub(crate) fn append_schedule(
 ) -> Result<(), AllocError>
     ensures { OnOk result (out.new.items ≡ out.old.items ++ schedule_line word.now schedule.now) }
 {
-    append_bytes(out, word)?;
+    out.extend_from_slice(word)?;
     for thread in schedule {
-        append_bytes(out, b" ")?;
+        out.extend_from_slice(b" ")?;
         append_decimal(out, *thread as u64)?;
     }
-    append_bytes(out, b"\n")
+    out.extend_from_slice(b"\n")
 }
 
 // The operations of a program, as far as they are right.
@@ -59,8 +59,8 @@ pub(crate) fn append_program<E: Element>(
 ) -> Result<(), AllocError>
     ensures { OnOk result (out.new.items ≡ out.old.items ++ program_line E.Element.printed thread (operations_of E.Element.format 0 program.now)) }
 {
-    append_bytes(out, b"program ")?;
+    out.extend_from_slice(b"program ")?;
     append_decimal(out, thread as u64)?;
     append_operations::<E>(out, program)?;
-    append_bytes(out, b"\n")
+    out.extend_from_slice(b"\n")
 }

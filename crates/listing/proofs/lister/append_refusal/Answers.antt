@@ -1,4 +1,4 @@
-use Rattle.std.proofs.Common.{◌++◌, vec_items, codes, decimal, refl, ap, append_assoc}
+use Rattle.std.proofs.Common.{◌++◌, vec_items, codes, decimal, refl, ap, append_assoc, rules}
 use Rattle.runfile.specs.Faults.{number_of}
 use Rattle.listing.specs.Listings.{line_feed}
 use Rattle.listing.proofs.Appends.{after_piece, last_piece}
@@ -10,7 +10,7 @@ returns c =
     let word = codes "refused file " in
     let number = decimal (number_of c.args.fault.refusal) in
     let place = decimal c.args.fault.place in
-    let a = after_piece start word (word ++ number) _ _ _ c.in_ok-append_bytes.ensures c.in_ok-append_decimal.ensures (ap (λ n. word ++ decimal n) c.number.ensures) in
-    let b = after_piece start (word ++ number) _ (codes " ") _ _ a c.in_ok-append_bytes-2.ensures refl in
+    let a = after_piece start word (word ++ number) _ _ _ c.in_ok-extend_from_slice.ensures.items c.in_ok-append_decimal.ensures (ap (λ n. word ++ decimal n) c.number.ensures) in
+    let b = after_piece start (word ++ number) _ (codes " ") _ _ a c.in_ok-extend_from_slice-2.ensures.items refl in
     let d = after_piece start ((word ++ number) ++ codes " ") _ place _ _ b c.in_ok-append_decimal-2.ensures refl in
-    last_piece c.append_bytes-3.result start (((word ++ number) ++ codes " ") ++ place) _ line_feed _ _ d (simp append_assoc) c.append_bytes-3.ensures
+    last_piece c.extend_from_slice-3.result start (((word ++ number) ++ codes " ") ++ place) _ line_feed _ _ d (simp append_assoc) (search rules)
