@@ -1,8 +1,5 @@
 -- One piece after another.
-use Rattle.std.proofs.Common.{◌≡◌, ℕ, ◌^◌, ◌<◌, List, [], ◌++◌, IfOk, Ok, Err, decimal, Result, sym, ap, ◌∙◌, append_assoc, arith}
-use Rattle.text.specs.Texts.{grown}
-use Rattle.text.proofs.Figures.{length_below}
-use Rattle.text.proofs.Growing.{grew_fits}
+use Rattle.std.proofs.Common.{◌≡◌, ℕ, List, ◌++◌, IfOk, Ok, Err, Result, sym, ap, ◌∙◌, append_assoc}
 
 -- a piece behind a text that began as `start` and has grown by `more`
 pub after_piece : (start more whole piece before after : List ℕ) → before ≡ start ++ more → after ≡ before ++ piece → more ++ piece ≡ whole → after ≡ start ++ whole
@@ -12,12 +9,6 @@ after_piece start more whole piece before after b a w = a ∙ ap (λ l. l ++ pie
 pub last_piece : {U E : Type 0} (r : Result U E) (start more whole piece before after : List ℕ) → before ≡ start ++ more → more ++ piece ≡ whole → IfOk r (λ _. after ≡ before ++ piece) → IfOk r (λ _. after ≡ start ++ whole)
 last_piece (Ok u) start more whole piece before after b w m = after_piece start more whole piece before after b m w
 last_piece (Err e) start more whole piece before after b w m = tt
-
--- a number fits into a new text
-pub decimal_text : (n : ℕ) (before after : List ℕ) → n < 2 ^ 64 → before ≡ [] → after ≡ grown before (decimal n) → after ≡ decimal n
-decimal_text n before after h b a =
-    let l = length_below 20 (2 ^ 64) n tt tt tt h in
-    a ∙ ap (λ t. grown t (decimal n)) b ∙ (grew_fits [] (decimal n) (omega arith)).1
 
 -- a loop that appends: what is there, and what is still to come
 pub next_item : (out after piece left rest whole : List ℕ) → after ≡ out ++ piece → left ≡ piece ++ rest → out ++ left ≡ whole → after ++ rest ≡ whole

@@ -4,7 +4,6 @@ ghost use Rattle.std.specs.List.{flat_map};
 ghost use Rattle.runfile.specs.Programs.{operations_of};
 ghost use Rattle.listing.specs.Listings.{operation_text, program_line, schedule_line};
 
-use super::append::append_decimal;
 use runfile::element::Element;
 use runfile::operation::{Operation, read_operation};
 use std::alloc::AllocError;
@@ -34,8 +33,8 @@ pub(crate) fn append_schedule(
 {
     out.extend_from_slice(word)?;
     for thread in schedule {
-        out.extend_from_slice(b" ")?;
-        append_decimal(out, *thread as u64)?;
+        let item = format!(in *out.allocator(); " {thread}")?;
+        out.extend_from_slice(item.as_bytes())?;
     }
     out.extend_from_slice(b"\n")
 }
@@ -59,8 +58,8 @@ pub(crate) fn append_program<E: Element>(
 ) -> Result<(), AllocError>
     ensures { OnOk result (out.new.items ≡ out.old.items ++ program_line E.Element.printed thread (operations_of E.Element.format 0 program.now)) }
 {
-    out.extend_from_slice(b"program ")?;
-    append_decimal(out, thread as u64)?;
+    let head = format!(in *out.allocator(); "program {thread}")?;
+    out.extend_from_slice(head.as_bytes())?;
     append_operations::<E>(out, program)?;
     out.extend_from_slice(b"\n")
 }

@@ -2,9 +2,8 @@
 ghost use Rattle.std.specs.Prelude.{◌≡◌, ◌++◌, IfOk, OnOk};
 ghost use Rattle.runfile.specs.Files.{contents_of, parsed, programs_in};
 ghost use Rattle.runfile.specs.Headers.{head_of};
-ghost use Rattle.listing.specs.Listings.{bank_word, contents_text, element_word, head_lines, kind_line, listed, program_lines, programs_text, refusal_line, shape_line};
+ghost use Rattle.listing.specs.Listings.{contents_text, head_lines, listed, program_lines, programs_text, refusal_line};
 
-use super::append::append_decimal;
 use super::lines::{append_program, append_schedule};
 use faults::numbered::Numbered;
 use runfile::element::Element;
@@ -18,58 +17,27 @@ use runfile::runs::RunFile;
 use std::alloc::{AllocError, Global};
 use turns::shape::Shape;
 
-fn element_word(element: ElementKind) -> &'static [u8]
-    ensures { result.now ≡ element_word element }
-{
-    match element {
-        ElementKind::Number => b"number",
-        ElementKind::Letter => b"letter",
-    }
-}
-
-fn bank_word(bank: BankKind) -> &'static [u8]
-    ensures { result.now ≡ bank_word bank }
-{
-    match bank {
-        BankKind::Word => b"word",
-        BankKind::Nibble => b"nibble",
-    }
-}
-
-fn append_shape(out: &mut Vec<u8>, shape: &Shape) -> Result<(), AllocError>
-    ensures { OnOk result (out.new.items ≡ out.old.items ++ shape_line shape.now.slots shape.now.threads) }
-{
-    out.extend_from_slice(b"slots ")?;
-    append_decimal(out, shape.slots() as u64)?;
-    out.extend_from_slice(b" threads ")?;
-    append_decimal(out, shape.threads() as u64)?;
-    out.extend_from_slice(b"\n")
-}
-
-fn append_kind(out: &mut Vec<u8>, label: &[u8], word: &[u8]) -> Result<(), AllocError>
-    ensures { OnOk result (out.new.items ≡ out.old.items ++ kind_line label.now word.now) }
-{
-    out.extend_from_slice(label)?;
-    out.extend_from_slice(word)?;
-    out.extend_from_slice(b"\n")
-}
-
+// The shape, the kind of elements, and the kind of bank.
 fn append_head(out: &mut Vec<u8>, header: &Header) -> Result<(), AllocError>
     ensures { OnOk result (out.new.items ≡ out.old.items ++ head_lines (head_of header.now)) }
 {
-    append_shape(out, &header.shape)?;
-    append_kind(out, b"element ", element_word(header.element))?;
-    append_kind(out, b"bank ", bank_word(header.bank))
+    let slots = header.shape.slots();
+    let threads = header.shape.threads();
+    let element = header.element;
+    let bank = header.bank;
+    let lines = format!(in *out.allocator();
+        "slots {slots} threads {threads}\nelement {element}\nbank {bank}\n"
+    )?;
+    out.extend_from_slice(lines.as_bytes())
 }
 
 fn append_refusal(out: &mut Vec<u8>, fault: Fault) -> Result<(), AllocError>
     ensures { OnOk result (out.new.items ≡ out.old.items ++ refusal_line fault) }
 {
-    out.extend_from_slice(b"refused file ")?;
-    append_decimal(out, fault.refusal.number() as u64)?;
-    out.extend_from_slice(b" ")?;
-    append_decimal(out, fault.place as u64)?;
-    out.extend_from_slice(b"\n")
+    let number = fault.refusal.number();
+    let place = fault.place;
+    let line = format!(in *out.allocator(); "refused file {number} {place}\n")?;
+    out.extend_from_slice(line.as_bytes())
 }
 
 // The programs of all threads, in order.
