@@ -5,7 +5,8 @@ ghost use Rattle.runfile.specs.Programs.{operations_of};
 ghost use Rattle.listing.specs.Listings.{operation_text, program_line, schedule_line};
 
 use runfile::element::Element;
-use runfile::operation::{Operation, read_operation};
+use runfile::operation::Operation;
+use runfile::program::Operations;
 use std::alloc::AllocError;
 
 fn append_operation<E: Element>(
@@ -43,10 +44,11 @@ pub(crate) fn append_schedule(
 fn append_operations<E: Element>(out: &mut Vec<u8>, program: &[u8]) -> Result<(), AllocError>
     ensures { OnOk result (out.new.items ≡ out.old.items ++ flat_map (operation_text E.Element.printed) (operations_of E.Element.format 0 program.now)) }
 {
-    let mut rest = program;
-    while let Ok(operation) = read_operation::<E>(rest, 0) {
+    for read in Operations::<E>::of(program) {
+        let Ok(operation) = read else {
+            break;
+        };
         append_operation(out, &operation)?;
-        rest = &rest[operation.byte_count()..];
     }
     Ok(())
 }

@@ -12,7 +12,7 @@ use super::header::{Header, read_header};
 use super::kinds::{BankKind, ElementKind};
 use super::letter::Letter;
 use super::number::Number;
-use super::operation::check_programs;
+use super::program::check_programs;
 use super::runs::RunFile;
 use super::schedule::check_schedule;
 use super::table::{check_table, cut_bodies};

@@ -21,7 +21,7 @@ pub enum BankKind {
 
 // What a body of a file holds.
 #[derive(Clone, Copy, PartialEq, Eq, Debug)]
-pub enum BodyKind {
+pub(crate) enum BodyKind {
     Shape = 1,
     Program = 2,
     LeadIn = 3,
