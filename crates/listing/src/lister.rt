@@ -10,12 +10,11 @@ use runfile::element::Element;
 use runfile::fault::Fault;
 use runfile::file::read_run;
 use runfile::header::Header;
-use runfile::kinds::{BankKind, ElementKind};
+use runfile::kinds::ElementKind;
 use runfile::letter::Letter;
 use runfile::number::Number;
 use runfile::runs::RunFile;
 use std::alloc::{AllocError, Global};
-use turns::shape::Shape;
 
 // The shape, the kind of elements, and the kind of bank.
 fn append_head(out: &mut Vec<u8>, header: &Header) -> Result<(), AllocError>
