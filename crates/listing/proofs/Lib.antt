@@ -1,2 +1,1 @@
 mod Appends
-mod Threads

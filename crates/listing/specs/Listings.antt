@@ -1,9 +1,6 @@
 -- What the lister prints: the parts of a run file a line each, words and numbers apart by a space, every number in decimal.
 use Rattle.std.specs.Prelude.{ℕ, ◌+◌, List, [], ◌∷◌, ◌++◌, Ok, Err, codes, decimal, Result}
 use Rattle.std.specs.List.{flat_map}
-use Rattle.runfile.specs.declared.header.Header.{Header}
-use Rattle.runfile.specs.declared.kinds.BankKind.{BankKind}
-use Rattle.runfile.specs.declared.kinds.BankKind.TheVariants.{Word, Nibble}
 use Rattle.runfile.specs.declared.kinds.ElementKind.{ElementKind}
 use Rattle.runfile.specs.declared.kinds.ElementKind.TheVariants.{Number, Letter}
 use Rattle.runfile.specs.declared.operation.Operation.{Operation}
@@ -11,6 +8,8 @@ use Rattle.runfile.specs.declared.operation.Operation.TheVariants.{Push, Pop}
 use Rattle.runfile.specs.Elements.{Format, number_format, number_text, letter_format, letter_text}
 use Rattle.runfile.specs.Faults.{FileFault, number_of}
 use Rattle.runfile.specs.Files.{Contents, programs_in, lead_in_in, main_in}
+use Rattle.runfile.specs.Headers.{Head}
+use Rattle.runfile.specs.Kinds.{element_word, bank_word}
 use Rattle.runfile.specs.Programs.{operations_of}
 
 -- every line ends in a line feed
@@ -20,19 +19,11 @@ line_feed = 10 ∷ []
 abbrev pub shape_line : ℕ → ℕ → List ℕ
 shape_line slots threads = codes "slots " ++ (decimal slots ++ (codes " threads " ++ (decimal threads ++ line_feed)))
 
-abbrev pub element_word : ElementKind → List ℕ
-element_word Number = codes "number"
-element_word Letter = codes "letter"
-
-abbrev pub bank_word : BankKind → List ℕ
-bank_word Word = codes "word"
-bank_word Nibble = codes "nibble"
-
 abbrev pub kind_line : List ℕ → List ℕ → List ℕ
 kind_line label word = label ++ (word ++ line_feed)
 
 -- the shape, the kind of elements, and the kind of bank
-abbrev pub head_lines : Header → List ℕ
+abbrev pub head_lines : Head → List ℕ
 head_lines h =
     shape_line h.slots h.threads
     ++ (kind_line (codes "element ") (element_word h.element) ++ kind_line (codes "bank ") (bank_word h.bank))

@@ -4,9 +4,9 @@ ghost use Rattle.std.specs.List.{flat_map};
 ghost use Rattle.runfile.specs.Programs.{operations_of};
 ghost use Rattle.listing.specs.Listings.{operation_text, program_line, schedule_line};
 
-use super::append::{append_bytes, append_decimal};
 use runfile::element::Element;
-use runfile::operation::{Operation, read_operation};
+use runfile::operation::Operation;
+use runfile::program::Operations;
 use std::alloc::AllocError;
 
 fn append_operation<E: Element>(
@@ -17,11 +17,11 @@ fn append_operation<E: Element>(
 {
     match operation {
         Operation::Push(element) => {
-            append_bytes(out, b" push ")?;
+            out.extend_from_slice(b" push ")?;
             let text = element.text();
-            append_bytes(out, text.as_bytes())
+            out.extend_from_slice(text.as_bytes())
         }
-        Operation::Pop => append_bytes(out, b" pop"),
+        Operation::Pop => out.extend_from_slice(b" pop"),
     }
 }
 
@@ -32,22 +32,23 @@ pub(crate) fn append_schedule(
 ) -> Result<(), AllocError>
     ensures { OnOk result (out.new.items ≡ out.old.items ++ schedule_line word.now schedule.now) }
 {
-    append_bytes(out, word)?;
+    out.extend_from_slice(word)?;
     for thread in schedule {
-        append_bytes(out, b" ")?;
-        append_decimal(out, *thread as u64)?;
+        let item = format!(in *out.allocator(); " {thread}")?;
+        out.extend_from_slice(item.as_bytes())?;
     }
-    append_bytes(out, b"\n")
+    out.extend_from_slice(b"\n")
 }
 
 // The operations of a program, as far as they are right.
 fn append_operations<E: Element>(out: &mut Vec<u8>, program: &[u8]) -> Result<(), AllocError>
     ensures { OnOk result (out.new.items ≡ out.old.items ++ flat_map (operation_text E.Element.printed) (operations_of E.Element.format 0 program.now)) }
 {
-    let mut rest = program;
-    while let Ok(operation) = read_operation::<E>(rest, 0) {
+    for read in Operations::<E>::of(program) {
+        let Ok(operation) = read else {
+            break;
+        };
         append_operation(out, &operation)?;
-        rest = &rest[operation.byte_count()..];
     }
     Ok(())
 }
@@ -59,8 +60,8 @@ pub(crate) fn append_program<E: Element>(
 ) -> Result<(), AllocError>
     ensures { OnOk result (out.new.items ≡ out.old.items ++ program_line E.Element.printed thread (operations_of E.Element.format 0 program.now)) }
 {
-    append_bytes(out, b"program ")?;
-    append_decimal(out, thread as u64)?;
+    let head = format!(in *out.allocator(); "program {thread}")?;
+    out.extend_from_slice(head.as_bytes())?;
     append_operations::<E>(out, program)?;
-    append_bytes(out, b"\n")
+    out.extend_from_slice(b"\n")
 }

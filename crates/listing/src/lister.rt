@@ -1,94 +1,57 @@
 // A whole listing.
-ghost use Rattle.std.specs.Prelude.{◌≡◌, ◌+◌, ◌≤◌, ◌++◌, length, IfOk, OnOk};
+ghost use Rattle.std.specs.Prelude.{◌≡◌, ◌++◌, IfOk, OnOk};
 ghost use Rattle.runfile.specs.Files.{contents_of, parsed, programs_in};
-ghost use Rattle.listing.specs.Listings.{bank_word, contents_text, element_word, head_lines, kind_line, listed, program_lines, programs_text, refusal_line, shape_line};
+ghost use Rattle.runfile.specs.Headers.{head_of};
+ghost use Rattle.listing.specs.Listings.{contents_text, head_lines, listed, program_lines, programs_text, refusal_line};
 
-use super::append::{append_bytes, append_decimal};
 use super::lines::{append_program, append_schedule};
 use faults::numbered::Numbered;
 use runfile::element::Element;
 use runfile::fault::Fault;
 use runfile::file::read_run;
 use runfile::header::Header;
-use runfile::kinds::{BankKind, ElementKind};
+use runfile::kinds::ElementKind;
 use runfile::letter::Letter;
 use runfile::number::Number;
 use runfile::runs::RunFile;
 use std::alloc::{AllocError, Global};
 
-fn element_word(element: ElementKind) -> &'static [u8]
-    ensures { result.now ≡ element_word element }
-{
-    match element {
-        ElementKind::Number => b"number",
-        ElementKind::Letter => b"letter",
-    }
-}
-
-fn bank_word(bank: BankKind) -> &'static [u8]
-    ensures { result.now ≡ bank_word bank }
-{
-    match bank {
-        BankKind::Word => b"word",
-        BankKind::Nibble => b"nibble",
-    }
-}
-
-fn append_shape(out: &mut Vec<u8>, slots: u8, threads: u8) -> Result<(), AllocError>
-    ensures { OnOk result (out.new.items ≡ out.old.items ++ shape_line slots threads) }
-{
-    append_bytes(out, b"slots ")?;
-    append_decimal(out, slots as u64)?;
-    append_bytes(out, b" threads ")?;
-    append_decimal(out, threads as u64)?;
-    append_bytes(out, b"\n")
-}
-
-fn append_kind(out: &mut Vec<u8>, label: &[u8], word: &[u8]) -> Result<(), AllocError>
-    ensures { OnOk result (out.new.items ≡ out.old.items ++ kind_line label.now word.now) }
-{
-    append_bytes(out, label)?;
-    append_bytes(out, word)?;
-    append_bytes(out, b"\n")
-}
-
+// The shape, the kind of elements, and the kind of bank.
 fn append_head(out: &mut Vec<u8>, header: &Header) -> Result<(), AllocError>
-    ensures { OnOk result (out.new.items ≡ out.old.items ++ head_lines header.now) }
+    ensures { OnOk result (out.new.items ≡ out.old.items ++ head_lines (head_of header.now)) }
 {
-    append_shape(out, header.slots, header.threads)?;
-    append_kind(out, b"element ", element_word(header.element))?;
-    append_kind(out, b"bank ", bank_word(header.bank))
+    let slots = header.shape.slots();
+    let threads = header.shape.threads();
+    let element = header.element;
+    let bank = header.bank;
+    let lines = format!(in *out.allocator();
+        "slots {slots} threads {threads}\nelement {element}\nbank {bank}\n"
+    )?;
+    out.extend_from_slice(lines.as_bytes())
 }
 
 fn append_refusal(out: &mut Vec<u8>, fault: Fault) -> Result<(), AllocError>
     ensures { OnOk result (out.new.items ≡ out.old.items ++ refusal_line fault) }
 {
-    append_bytes(out, b"refused file ")?;
-    append_decimal(out, fault.refusal.number() as u64)?;
-    append_bytes(out, b" ")?;
-    append_decimal(out, fault.place as u64)?;
-    append_bytes(out, b"\n")
+    let number = fault.refusal.number();
+    let place = fault.place;
+    let line = format!(in *out.allocator(); "refused file {number} {place}\n")?;
+    out.extend_from_slice(line.as_bytes())
 }
 
 // The programs of all threads, in order.
 fn append_programs<E: Element>(out: &mut Vec<u8>, run: &RunFile) -> Result<(), AllocError>
-    requires bodies { length (contents_of run.now).bodies ≡ run.now.header.threads + 3 }
-    requires few { run.now.header.threads ≤ 64 }
-    ensures { OnOk result (out.new.items ≡ out.old.items ++ program_lines E.Element.format E.Element.printed 0 (programs_in run.now.header.threads (contents_of run.now).bodies)) }
+    ensures { OnOk result (out.new.items ≡ out.old.items ++ program_lines E.Element.format E.Element.printed 0 (programs_in run.now.header.shape.threads (contents_of run.now).bodies)) }
 {
-    let mut thread = 0;
-    while let Some(program) = run.program(thread) {
+    for (thread, program) in run.programs().iter().enumerate() {
         append_program::<E>(out, thread, program)?;
-        thread += 1;
     }
     Ok(())
 }
 
 // The same, by the kind of the run's elements.
 fn append_kind_of_programs(out: &mut Vec<u8>, run: &RunFile) -> Result<(), AllocError>
-    requires bodies { length (contents_of run.now).bodies ≡ run.now.header.threads + 3 }
-    requires few { run.now.header.threads ≤ 64 }
-    ensures { OnOk result (out.new.items ≡ out.old.items ++ programs_text run.now.header.element (programs_in run.now.header.threads (contents_of run.now).bodies)) }
+    ensures { OnOk result (out.new.items ≡ out.old.items ++ programs_text run.now.header.element (programs_in run.now.header.shape.threads (contents_of run.now).bodies)) }
 {
     match run.header.element {
         ElementKind::Number => append_programs::<Number>(out, run),
@@ -97,8 +60,6 @@ fn append_kind_of_programs(out: &mut Vec<u8>, run: &RunFile) -> Result<(), Alloc
 }
 
 fn append_contents(out: &mut Vec<u8>, run: &RunFile) -> Result<(), AllocError>
-    requires bodies { length (contents_of run.now).bodies ≡ run.now.header.threads + 3 }
-    requires few { run.now.header.threads ≤ 64 }
     ensures { OnOk result (out.new.items ≡ out.old.items ++ contents_text (contents_of run.now)) }
 {
     append_head(out, &run.header)?;

@@ -1,5 +1,5 @@
 -- A chain of readings, where it is known how its first one ends.
-use Rattle.std.proofs.Common.{◌≡◌, ℕ, Bool, true, false, cond, ◌⊎◌, Ok, Err, Result, sym, refl, inl, inr, arith}
+use Rattle.std.proofs.Common.{◌≡◌, ℕ, Bool, true, false, cond, Ok, Err, Result, sym, refl, arith}
 use Rattle.runfile.specs.Faults.{FileFault}
 use Rattle.runfile.specs.Chains.{chain, sound}
 
@@ -19,10 +19,6 @@ pub chain_ok : {A B : Type 0} (r : Result A FileFault) (next : A → Result B Fi
 chain_ok (Ok a) next b e = (a, refl, e)
 chain_ok (Err f) next b e = absurd (never b f (sym e))
 
-pub chain_err : {A B : Type 0} (r : Result A FileFault) (next : A → Result B FileFault) (f : FileFault) → chain r next ≡ Err f → (r ≡ Err f) ⊎ ((a : A) × (r ≡ Ok a) × (next a ≡ Err f))
-chain_err (Ok a) next f e = inr (a, refl, e)
-chain_err (Err g) next f e = inl (let same : g ≡ f = cc in rw same)
-
 -- a test on the way
 pub cond_ok : {B : Type 0} (t : Bool) (r : Result B FileFault) (f : FileFault) (b : B) → cond t r (Err f) ≡ Ok b → (t ≡ true) × (r ≡ Ok b)
 cond_ok true r f b e = (refl, e)
@@ -34,6 +30,3 @@ cond_not_ok false r f b e = (refl, e)
 
 pub ok_same : {A : Type 0} (a b : A) → ◌≡◌ {A = Result A FileFault} (Ok a) (Ok b) → a ≡ b
 ok_same a b e = cc
-
-pub err_same : {A : Type 0} (f g : FileFault) → ◌≡◌ {A = Result A FileFault} (Err f) (Err g) → f ≡ g
-err_same f g e = cc

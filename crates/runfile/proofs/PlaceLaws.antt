@@ -33,10 +33,6 @@ pub until_cond : {A : Type 0} (n : ℕ) (t : Bool) (r s : Result A FileFault) �
 until_cond n true r s p q = p refl
 until_cond n false r s p q = q refl
 
-until_more : {A : Type 0} (m n : ℕ) (r : Result A FileFault) → m ≤ n → Until m r → Until n r
-until_more m n (Ok a) h u = tt
-until_more m n (Err f) h u = omega arith
-
 pub scheduled_until : (threads : ℕ) (ts : List ℕ) (place n : ℕ) → place + length ts ≤ n → Until n (scheduled threads ts place)
 scheduled_until threads [] place n h = tt
 scheduled_until threads (t ∷ ts) place n h = until_cond n (ltb t threads) (scheduled threads ts (place + 1)) (Err (body place)) (λ _. scheduled_until threads ts (place + 1) n (omega arith)) (λ _. omega arith)

@@ -1,11 +1,11 @@
 -- The table of contents, as the code reads it: entry by entry, and what is left of the table.
-use Rattle.std.proofs.Common.{◌≡◌, ℕ, zero, suc, ◌+◌, ◌-◌, ◌*◌, ◌<◌, ◌≤◌, eqb, ltb, List, [], ◌∷◌, ◌++◌, map, length, get_or, take, drop, set, Some, None, Ok, Err, Option, Result, sym, refl, ap, ◌∙◌, append_assoc, append-nil, arith, Bor}
+use Rattle.std.proofs.Common.{◌≡◌, ℕ, zero, suc, ◌+◌, ◌-◌, ◌*◌, ◌<◌, ◌≤◌, eqb, ltb, List, [], ◌∷◌, ◌++◌, map, length, get_or, take, drop, set, Some, None, Ok, Err, Option, Result, sym, refl, ap, ◌∙◌, append_assoc, arith, Bor}
 use Rattle.std.proofs.lemmas.List.{take_more_set, map-set, length-map, nil_from_length, take-append-drop}
 use Rattle.std.specs.List.{flat_map}
 use Rattle.std.specs.Option.{ok_or}
 use Rattle.std.specs.Result.{result_ok}
 use Rattle.std.proofs.lemmas.Slice.{between_to_end}
-use Rattle.std.proofs.lemmas.Bool.{le-ltb, eq-eqb, eqb-true}
+use Rattle.std.proofs.lemmas.Bool.{le-ltb, eqb-true}
 use Rattle.runfile.specs.declared.kinds.BodyKind.{BodyKind}
 use Rattle.runfile.specs.declared.kinds.UnknownKind.{UnknownKind}
 use Rattle.runfile.specs.declared.table.Entry.{Entry}
@@ -59,12 +59,6 @@ module _ (end i : ℕ) (left : List ℕ) (cuts : List (Bor (List ℕ))) (whole :
       before
       ∙ ap (λ l. chain (bodied l left end) (λ bs. Ok (take i (map (λ x. x.now) cuts) ++ bs))) split
       ∙ rw (le-ltb (length left) e.size within, after) (cut_on (take i (map (λ x. x.now) cuts)) (take (i + 1) (map (λ x. x.now) (set cuts i part))) (take e.size left) (bodied es (drop e.size left) end) w)
-
-  pub bodied_end : (all : List Entry) → all ≡ [] → length left ≡ 0 → whole ≡ chain (bodied all left end) (λ bs. Ok (take i (map (λ x. x.now) cuts) ++ bs)) → whole ≡ Ok (take i (map (λ x. x.now) cuts))
-  bodied_end all none empty before =
-      before
-      ∙ ap (λ l. chain (bodied l left end) (λ bs. Ok (take i (map (λ x. x.now) cuts) ++ bs))) none
-      ∙ rw (eq-eqb (length left) 0 empty) (ap Ok (append-nil (take i (map (λ x. x.now) cuts))))
 
 -- the bodies are all that follows the table
 pub bodied_joined : (es : List Entry) (bytes : List ℕ) (end : ℕ) (bs : List (List ℕ)) → bodied es bytes end ≡ Ok bs → flat_map (λ b. b) bs ≡ bytes

@@ -1,5 +1,5 @@
 -- The bytes that stand for kinds of elements and of banks, 1 and 2, and of bodies, 1 to 4, and no other.
-use Rattle.std.specs.Prelude.{ℕ, Bool, false, cond, Some, None, Option, ◌==◌}
+use Rattle.std.specs.Prelude.{ℕ, Bool, false, cond, List, Some, None, codes, Option, ◌==◌}
 use Rattle.runfile.specs.declared.kinds.ElementKind.{ElementKind}
 use Rattle.runfile.specs.declared.kinds.ElementKind.TheVariants.{Number, Letter}
 use Rattle.runfile.specs.declared.kinds.BankKind.{BankKind}
@@ -12,6 +12,15 @@ element_kind code = cond (code == 1) (Some Number) (cond (code == 2) (Some Lette
 
 abbrev pub bank_kind : ℕ → Option BankKind
 bank_kind code = cond (code == 1) (Some Word) (cond (code == 2) (Some Nibble) None)
+
+-- the words that users are told
+abbrev pub element_word : ElementKind → List ℕ
+element_word Number = codes "number"
+element_word Letter = codes "letter"
+
+abbrev pub bank_word : BankKind → List ℕ
+bank_word Word = codes "word"
+bank_word Nibble = codes "nibble"
 
 abbrev pub body_kind : ℕ → Option BodyKind
 body_kind code =

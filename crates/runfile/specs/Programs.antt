@@ -38,6 +38,17 @@ operations_of form (suc skip) (b ∷ bytes) = operations_of form skip bytes
 operations_of form zero (b ∷ bytes) =
     first_then (operation form (b ∷ bytes) 0) (λ o. o ∷ operations_of form (wide form.width o - 1) bytes)
 
+-- the same operations one by one, and behind them the fault of the first wrong one
+abbrev pub reading_then : {T : Type 0} → Result (Operation T) FileFault → (Operation T → List (Result (Operation T) FileFault)) → List (Result (Operation T) FileFault)
+reading_then (Ok o) next = Ok o ∷ next o
+reading_then (Err f) next = Err f ∷ []
+
+abbrev pub readings : {T : Type 0} → Format T → ℕ → List ℕ → ℕ → List (Result (Operation T) FileFault)
+readings form skip [] place = []
+readings form (suc skip) (b ∷ bytes) place = readings form skip bytes (place + 1)
+readings form zero (b ∷ bytes) place =
+    reading_then (operation form (b ∷ bytes) place) (λ o. readings form (wide form.width o - 1) bytes (place + 1))
+
 -- programs one after another: where they end, or the fault of the first wrong operation
 abbrev pub programmed : {T : Type 0} → Format T → List (List ℕ) → ℕ → Result ℕ FileFault
 programmed form [] place = Ok place

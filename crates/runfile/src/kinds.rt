@@ -1,7 +1,9 @@
 // The bytes that stand for a kind of elements, of banks or of bodies.
-ghost use Rattle.std.specs.Prelude.{◌≡◌};
+ghost use Rattle.std.specs.Prelude.{◌≡◌, Some};
 ghost use Rattle.std.specs.Option.{ok_or};
-ghost use Rattle.runfile.specs.Kinds.{element_kind, bank_kind, body_kind};
+ghost use Rattle.runfile.specs.Kinds.{element_kind, element_word, bank_kind, bank_word, body_kind};
+
+use std::fmt;
 
 // What the elements of a run are.
 #[derive(Clone, Copy, PartialEq, Eq, Debug)]
@@ -19,7 +21,7 @@ pub enum BankKind {
 
 // What a body of a file holds.
 #[derive(Clone, Copy, PartialEq, Eq, Debug)]
-pub enum BodyKind {
+pub(crate) enum BodyKind {
     Shape = 1,
     Program = 2,
     LeadIn = 3,
@@ -55,6 +57,30 @@ impl TryFrom<u8> for BankKind {
             2 => Ok(BankKind::Nibble),
             _ => Err(UnknownKind(code)),
         }
+    }
+}
+
+impl fmt::Display for ElementKind {
+    ghost output = { λ kind. Some (element_word kind) };
+
+    fn fmt<W: fmt::Write>(&self, f: &mut fmt::Formatter<W>) -> fmt::Result {
+        let word = match self {
+            ElementKind::Number => "number",
+            ElementKind::Letter => "letter",
+        };
+        f.write_str(word)
+    }
+}
+
+impl fmt::Display for BankKind {
+    ghost output = { λ kind. Some (bank_word kind) };
+
+    fn fmt<W: fmt::Write>(&self, f: &mut fmt::Formatter<W>) -> fmt::Result {
+        let word = match self {
+            BankKind::Word => "word",
+            BankKind::Nibble => "nibble",
+        };
+        f.write_str(word)
     }
 }
 

@@ -11,6 +11,7 @@ pub mod kinds;
 pub mod letter;
 pub mod number;
 pub mod operation;
+pub mod program;
 pub mod runs;
 mod schedule;
 mod table;

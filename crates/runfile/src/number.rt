@@ -1,5 +1,4 @@
 // Elements that are numbers.
-ghost use Rattle.std.specs.Prelude.{◌≡◌};
 ghost use Rattle.runfile.specs.Elements.{number_format, number_text};
 ghost use Rattle.std.proofs.Common.{rules};
 

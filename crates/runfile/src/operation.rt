@@ -1,8 +1,6 @@
-// A thread's program: operations one after another.
-ghost use Rattle.std.specs.Prelude.{◌≡◌, ℕ, ◌+◌, ◌-◌, ◌≤◌, map, length, IfOk};
-ghost use Rattle.std.specs.List.{flat_map};
-ghost use Rattle.runfile.specs.Chains.{sound};
-ghost use Rattle.runfile.specs.Programs.{operation, operations, programmed, wide};
+// An operation of a thread's program.
+ghost use Rattle.std.specs.Prelude.{◌≡◌, ◌≤◌, length, IfOk};
+ghost use Rattle.runfile.specs.Programs.{operation, wide};
 
 use super::element::Element;
 use super::fault::{Fault, FileRefusal};
@@ -39,34 +37,4 @@ pub fn read_operation<E: Element>(program: &[u8], place: usize) -> Result<Operat
         [0x44, ..] => Ok(Operation::Pop),
         _ => Err(FileRefusal::Body.at(place)),
     }
-}
-
-// Refuses a program at its first wrong operation.
-pub(crate) fn check_program<E: Element>(program: &[u8], place: usize) -> Result<(), Fault>
-    requires { place + length program.now ≤ 49152 }
-    ensures { result ≡ sound (operations E.Element.format 0 program.now place) }
-{
-    let mut rest = program;
-    let mut at = place;
-    while !rest.is_empty() {
-        let operation = read_operation::<E>(rest, at)?;
-        let width = operation.byte_count();
-        rest = &rest[width..];
-        at += width;
-    }
-    Ok(())
-}
-
-// Refuses programs that stand one after another from `place` on, at the first wrong operation; answers where they end.
-pub(crate) fn check_programs<E: Element>(programs: &[&[u8]], place: usize) -> Result<usize, Fault>
-    requires { place + length (flat_map (λ p. p) (map (λ p. p.now) programs.now)) ≤ 49152 }
-    ensures value { result ≡ programmed E.Element.format (map (λ p. p.now) programs.now) place }
-    ensures end { IfOk result (λ e. e ≡ place + length (flat_map (λ p. p) (map (λ p. p.now) programs.now))) }
-{
-    let mut at = place;
-    for program in programs {
-        check_program::<E>(program, at)?;
-        at += program.len();
-    }
-    Ok(at)
 }

@@ -7,11 +7,9 @@ use std::test::Fail;
 
 #[test]
 fn parts_of_a_file(rt: HostRuntime) -> Result<(), Fail> {
-    let Ok(run) = read_run(&NUMBERS) else {
-        return Err(Fail::new("refused"));
-    };
-    assert_eq!(rt; run.header.slots, 2);
-    assert_eq!(rt; run.header.threads, 2);
+    let run = read_run(&NUMBERS)?;
+    assert_eq!(rt; run.header.shape.slots(), 2);
+    assert_eq!(rt; run.header.shape.threads(), 2);
     assert_eq!(rt; run.header.element, ElementKind::Number);
     assert_eq!(rt; run.header.bank, BankKind::Word);
     assert_eq!(rt;
@@ -36,10 +34,8 @@ fn longest_file(rt: HostRuntime) -> Result<(), Fail> {
         4, 1, 0, 0, 0, 4, 2, 0, 0, 0, 0, 3, 0, 0, 0, 0, 4, 0, 0, 0xbf, 0xe7, 64, 1, 1, 2,
     ];
     file[0..25].copy_from_slice(&head);
-    let Ok(run) = read_run(&file) else {
-        return Err(Fail::new("refused"));
-    };
-    assert_eq!(rt; run.header.slots, 64);
+    let run = read_run(&file)?;
+    assert_eq!(rt; run.header.shape.slots(), 64);
     assert_eq!(rt; run.main().len(), 49127);
     Ok(())
 }

@@ -333,14 +333,10 @@ fn refused(rt: &impl Abort, base: &[u8], damage: &Damage) -> Result<(), Fail> {
     apply(area, base, damage.changes);
     let name = damage.name;
     assert!(rt; damage.length <= 64, "{name}");
-    match read_run(&area[0..damage.length]) {
-        Ok(_) => Err(Fail::new(name)),
-        Err(fault) => {
-            assert_eq!(rt; fault.refusal.number(), damage.number, "{name}");
-            assert_eq!(rt; fault.place, damage.place, "{name}");
-            Ok(())
-        }
-    }
+    let fault = read_run(&area[0..damage.length]).err().ok_or(name)?;
+    assert_eq!(rt; fault.refusal.number(), damage.number, "{name}");
+    assert_eq!(rt; fault.place, damage.place, "{name}");
+    Ok(())
 }
 
 #[test]
@@ -362,12 +358,8 @@ fn damaged_files_of_letters(rt: HostRuntime) -> Result<(), Fail> {
 #[test]
 fn too_long(rt: HostRuntime) -> Result<(), Fail> {
     let file = [0; 49153];
-    match read_run(&file) {
-        Ok(_) => Err(Fail::new("accepted")),
-        Err(fault) => {
-            assert_eq!(rt; fault.refusal.number(), 13);
-            assert_eq!(rt; fault.place, 49152);
-            Ok(())
-        }
-    }
+    let fault = read_run(&file).err().ok_or("accepted")?;
+    assert_eq!(rt; fault.refusal.number(), 13);
+    assert_eq!(rt; fault.place, 49152);
+    Ok(())
 }

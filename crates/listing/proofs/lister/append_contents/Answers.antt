@@ -7,10 +7,10 @@ use Rattle.listing.proofs.lister.append_contents.Goals as goal
 pub returns : goal.returns
 returns c =
     let start = vec_items c.args.out.now in
-    let run = c.args.run.now in
+    let run = contents_of c.args.run.now in
     let head = head_lines run.header in
-    let programs = programs_text run.header.element (programs_in run.header.threads (contents_of run).bodies) in
-    let lead_in = schedule_line (codes "lead-in") (lead_in_in run.header.threads (contents_of run).bodies) in
+    let programs = programs_text run.header.element (programs_in run.header.threads run.bodies) in
+    let lead_in = schedule_line (codes "lead-in") (lead_in_in run.header.threads run.bodies) in
     let m = ap (schedule_line (codes "main")) c.main.ensures in
     let a = after_piece start head (head ++ programs) programs _ _ c.in_ok-append_head.ensures c.in_ok-append_kind_of_programs.ensures refl in
     let b = after_piece start (head ++ programs) ((head ++ programs) ++ lead_in) _ _ _ a c.in_ok-append_schedule.ensures (cc) in

@@ -4,7 +4,7 @@ use Rattle.std.proofs.lemmas.List.{at_drop_more, at_drop_all}
 use Rattle.std.proofs.lemmas.Result.{err_from_is_err_and}
 use Rattle.runfile.specs.Programs.{operations, programmed}
 use Rattle.runfile.proofs.ChainLaws.{chain_sound, chain_fault}
-use Rattle.runfile.proofs.operation.check_programs.Goals as goal
+use Rattle.runfile.proofs.program.check_programs.Goals as goal
 
 abbrev nothing : Bor (List ℕ)
 nothing = record { ref_ptr = (0, 0); now = [] }

@@ -1,7 +1,7 @@
 use Rattle.std.proofs.Common.{◌≡◌, ◌+◌, map, length, drop}
 use Rattle.std.specs.List.{flat_map}
 use Rattle.runfile.specs.Programs.{programmed}
-use Rattle.runfile.proofs.operation.check_programs.Given as goal
+use Rattle.runfile.proofs.program.check_programs.Given as goal
 
 abbrev pub invariant-loop-program : goal.invariant-loop-program
 invariant-loop-program g l =
