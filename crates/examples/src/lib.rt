@@ -1,5 +1,6 @@
 // Worked examples of the machine: tickets and turns, openings, takes at their limits, and three runs call by call.
-// Nothing is computed here: the function's contract is a theorem, and its answer is always 0.
+// Nothing is computed here: the function's contract is a theorem, and its answer is always 0, which a
+// must-fail edit turns.
 #![tactic(auto)]
 
 ghost use Rattle.std.specs.Prelude.{◌≡◌};

@@ -31,6 +31,7 @@ fn play_file(file: &[u8], area: &mut [u8]) -> Result<usize, Fault>
     ensures faithful { IfOk result (λ size. FaithfulTo file.now (take size area.new)) }
 {
     let run = read_run(file).map_err(Fault::File)?;
+    // Each arm is at its own type of elements, for which a closure has no parameter.
     match run.header.element {
         ElementKind::Number => report_file(BLANK_NUMBER, &run, area),
         ElementKind::Letter => report_file(BLANK_LETTER, &run, area),

@@ -75,6 +75,7 @@ pub(crate) fn report_file<E: Element>(
     let cells = &mut cells[..shape.slots() as usize];
     let hands = &mut hands[..shape.threads() as usize];
     let entries = &mut entries;
+    // Each arm is at its own type of bank, for which a closure has no parameter.
     match run.header.bank {
         BankKind::Word => report_run(WordBank::new(), run, shape, cells, hands, entries, area),
         BankKind::Nibble => report_run(NibbleBank::new(), run, shape, cells, hands, entries, area),

@@ -1,5 +1,6 @@
 // The record's law: over every run of a newly opened machine, its record is the true history.
-// Nothing is computed here: each function's contract is a theorem, and its answer is always 0.
+// Nothing is computed here: each function's contract is a theorem, and its answer is always 0. With no answer
+// there would be no code that a must-fail edit could turn.
 #![tactic(auto)]
 
 ghost use Rattle.std.specs.Prelude.{◌≡◌};

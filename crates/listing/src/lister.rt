@@ -53,6 +53,7 @@ fn append_programs<E: Element>(out: &mut Vec<u8>, run: &RunFile) -> Result<(), A
 fn append_kind_of_programs(out: &mut Vec<u8>, run: &RunFile) -> Result<(), AllocError>
     ensures { OnOk result (out.new.items ≡ out.old.items ++ programs_text run.now.header.element (programs_in run.now.header.shape.threads (contents_of run.now).bodies)) }
 {
+    // Each arm is at its own type of elements, for which a closure has no parameter.
     match run.header.element {
         ElementKind::Number => append_programs::<Number>(out, run),
         ElementKind::Letter => append_programs::<Letter>(out, run),

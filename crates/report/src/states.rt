@@ -1,5 +1,6 @@
 // A report is new, then open, then closed. None of the three can be copied or dropped, so that
-// the heading comes first and nothing comes behind the closing line.
+// the heading comes first and nothing comes behind the closing line. The project asks for three types of
+// a plain number, so they are not one type with a parameter.
 ghost use Rattle.std.specs.Prelude.{◌≡◌, ℕ};
 ghost use Rattle.report.specs.Lines.{closing_line, heading_line, line_for, word_of};
 ghost use Rattle.report.specs.Pieces.{left_at, wrote_at};
@@ -61,7 +62,8 @@ impl Unclosed for OpenReport {
     }
 }
 
-// The first word of an entry's line.
+// The first word of an entry's line. It is bytes and no `Display`: a line goes whole into memory that the
+// caller lends, and a formatter would leave half of it where the area ends.
 fn word(kind: Kind) -> &'static [u8]
     ensures { result.now ≡ word_of kind }
 {

@@ -12,7 +12,7 @@ use history::entry::Entry;
 use runfile::element::Element;
 use turns::shape::Shape;
 
-// Writes the heading, the first `used` entries in order and the closing line to the start of the
+// Writes the heading, the first `used` entries (all where there are fewer) in order and the closing line to the start of the
 // area, and answers the report's length; or writes the pieces that fit, and answers their length.
 pub fn write_report<E: Element>(
     area: &mut [u8],
@@ -30,6 +30,7 @@ pub fn write_report<E: Element>(
     let mut report = NewReport::new().heading(area, shape)?;
     let used_entries = &entries[..used.min(entries.len())];
     for entry in used_entries {
+        // `?` would let the open report go, and it has to be abandoned.
         if let Err(refusal) = report.entry(area, *entry) {
             return Err(refusal.at(report.abandon()));
         }

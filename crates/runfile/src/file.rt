@@ -54,6 +54,7 @@ fn check_kind(element: ElementKind, programs: &[&[u8]], place: usize) -> Result<
     ensures value { result ≡ programs_checked element (map (λ p. p.now) programs.now) place }
     ensures end { IfOk result (λ e. e ≡ place + length (flat_map (λ p. p) (map (λ p. p.now) programs.now))) }
 {
+    // Each arm is at its own type of elements, for which a closure has no parameter.
     match element {
         ElementKind::Number => check_programs::<Number>(programs, place),
         ElementKind::Letter => check_programs::<Letter>(programs, place),

@@ -23,7 +23,8 @@ pub struct Letter {
 }
 
 impl Tone {
-    // What stands behind an urgent letter's serial number.
+    // What stands behind an urgent letter's serial number: bytes and no `Display`, since a `Text` needs no heap
+    // and no formatter.
     fn mark(self) -> &'static [u8]
         ensures { result.now ≡ mark self }
     {

@@ -315,14 +315,12 @@ const LETTERS_DAMAGE: [Damage; 5] = [
 ];
 
 fn apply(area: &mut [u8], base: &[u8], changes: &[(usize, u8)]) {
-    for (i, byte) in base.iter().enumerate() {
-        if i < area.len() {
-            area[i] = *byte;
-        }
+    for (slot, byte) in area.iter_mut().zip(base) {
+        *slot = *byte;
     }
     for (place, byte) in changes {
-        if *place < area.len() {
-            area[*place] = *byte;
+        if let Some(slot) = area.get_mut(*place) {
+            *slot = *byte;
         }
     }
 }

@@ -5,7 +5,7 @@ pub enum Mark {
     Full,
 }
 
-// An element and its mark. An emptied cell keeps its element.
+// An element and its mark. An emptied cell keeps its element, which an Option would lose.
 #[derive(Clone, Copy, PartialEq, Eq, Debug)]
 pub struct Cell<T> {
     pub element: T,
