@@ -13,7 +13,7 @@ use runfile::letter::{Letter, Tone};
 use runfile::number::Number;
 use text::refusal::AreaRefusal;
 
-// What C hosts are answered where there is no room even for the refusal's line.
+// C hosts are answered a signed number: this one where there is no room even for the refusal's line.
 const NO_ROOM: i64 = -14;
 
 // An element of each kind that cells, hands and record hold before anything is pushed.

@@ -26,7 +26,8 @@ use world::cell::{Cell, Mark};
 // How many entries the record of a run has.
 const RECORD_LENGTH: usize = 2048;
 
-// Plays a run in these buffers and writes its report to the start of the area.
+// Plays a run in these buffers, which the machine's calls take one by one, and writes its report to the start
+// of the area.
 fn report_run<B: Bank + Drop, E: Element>(
     bank: B,
     run: &RunFile,

@@ -23,7 +23,6 @@ pub enum Answer {
     Done,
     Stepped(Step, Ticket),
     Collected(Kind, Ticket, u32),
-    Refused(Refusal),
 }
 
 // What the queries answer, but for the phases.
@@ -93,7 +92,8 @@ pub(crate) fn asked<B: Bank>(machine: &Machine<B>) -> Told {
     }
 }
 
-fn answered<B: Bank>(
+// Makes a call with the buffers as they are lent, one by one as the calls take them.
+pub(crate) fn make<B: Bank>(
     machine: &mut Machine<B>,
     call: Call,
     cells: &mut [Cell<u32>],
@@ -119,24 +119,13 @@ fn answered<B: Bank>(
     Ok(Answer::Done)
 }
 
-// Makes a call with the buffers as they are lent.
-pub(crate) fn make<B: Bank>(
-    machine: &mut Machine<B>,
-    call: Call,
-    cells: &mut [Cell<u32>],
-    hands: &mut [u32],
-    entries: &mut [Entry<u32>],
-) -> Answer {
-    answered(machine, call, cells, hands, entries).unwrap_or_else(Answer::Refused)
-}
-
 // Makes a call with the first so many of each buffer.
 pub(crate) fn call_lent<B: Bank>(
     machine: &mut Machine<B>,
     line: Call,
     lent: Lent,
     buffers: &mut Buffers,
-) -> Answer {
+) -> Result<Answer, Refusal> {
     let Lent(cells, hands, entries) = lent;
     let cells = cells.min(CELLS);
     let hands = hands.min(HANDS);

@@ -16,27 +16,27 @@ use world::step::Step;
 const ALL_ENTRIES: usize = 131_070;
 
 // One round through a single slot: the pop takes first, so that its push enters both.
-fn round(ticket: Ticket) -> [(Call, Answer); 13] {
+fn round(ticket: Ticket) -> [(Call, Result<Answer, Refusal>); 13] {
     let element = ticket as u32;
     [
-        (Call::Pop(1), Answer::Done),
-        (Call::Step(1), Answer::Stepped(Step::Took, ticket)),
-        (Call::Push(0, element), Answer::Done),
-        (Call::Step(0), Answer::Stepped(Step::Took, ticket)),
-        (Call::Step(0), Answer::Stepped(Step::Passed, ticket)),
-        (Call::Step(0), Answer::Stepped(Step::Stored, ticket)),
-        (Call::Step(0), Answer::Stepped(Step::Completed, ticket)),
+        (Call::Pop(1), Ok(Answer::Done)),
+        (Call::Step(1), Ok(Answer::Stepped(Step::Took, ticket))),
+        (Call::Push(0, element), Ok(Answer::Done)),
+        (Call::Step(0), Ok(Answer::Stepped(Step::Took, ticket))),
+        (Call::Step(0), Ok(Answer::Stepped(Step::Passed, ticket))),
+        (Call::Step(0), Ok(Answer::Stepped(Step::Stored, ticket))),
+        (Call::Step(0), Ok(Answer::Stepped(Step::Completed, ticket))),
         (
             Call::Collect(0),
-            Answer::Collected(Kind::Push, ticket, element),
+            Ok(Answer::Collected(Kind::Push, ticket, element)),
         ),
-        (Call::Step(1), Answer::Stepped(Step::Passed, ticket)),
-        (Call::Step(1), Answer::Stepped(Step::Read, ticket)),
-        (Call::Step(1), Answer::Stepped(Step::Emptied, ticket)),
-        (Call::Step(1), Answer::Stepped(Step::Completed, ticket)),
+        (Call::Step(1), Ok(Answer::Stepped(Step::Passed, ticket))),
+        (Call::Step(1), Ok(Answer::Stepped(Step::Read, ticket))),
+        (Call::Step(1), Ok(Answer::Stepped(Step::Emptied, ticket))),
+        (Call::Step(1), Ok(Answer::Stepped(Step::Completed, ticket))),
         (
             Call::Collect(1),
-            Answer::Collected(Kind::Pop, ticket, element),
+            Ok(Answer::Collected(Kind::Pop, ticket, element)),
         ),
     ]
 }
@@ -51,7 +51,7 @@ fn hand_out<B: Bank>(
 ) {
     assert_eq!(rt;
         make(machine, Call::Open(1, 2), cells, hands, entries),
-        Answer::Done
+        Ok(Answer::Done)
     );
     for ticket in 0..65_535 {
         for (call, answer) in round(ticket) {
@@ -60,11 +60,11 @@ fn hand_out<B: Bank>(
     }
     assert_eq!(rt;
         make(machine, Call::Push(0, 7), cells, hands, entries),
-        Answer::Done
+        Ok(Answer::Done)
     );
     assert_eq!(rt;
         make(machine, Call::Pop(1), cells, hands, entries),
-        Answer::Done
+        Ok(Answer::Done)
     );
 }
 
@@ -81,7 +81,7 @@ fn is_spent<B: Bank>(
     assert_eq!(rt; told.used, ALL_ENTRIES);
     for thread in [0, 1] {
         let answer = make(machine, Call::Step(thread), cells, hands, entries);
-        assert_eq!(rt; answer, Answer::Refused(Refusal::Spent));
+        assert_eq!(rt; answer, Err(Refusal::Spent));
         assert_eq!(rt; asked(machine), told);
     }
 }
@@ -115,6 +115,7 @@ fn spends_all<B: Bank + Drop>(rt: &impl Abort, bank: B, entries: &mut [Entry<u32
     holds_rounds(rt, entries);
 }
 
+// Each bank has a test by its own name, over what is generic.
 #[test]
 fn word_bank_spends_all(rt: HostRuntime) -> Result<(), Fail> {
     let mut entries = vec![in rt.alloc(); NO_ENTRY; ALL_ENTRIES]?;
@@ -143,50 +144,50 @@ fn last_entry<B: Bank + Drop>(rt: &impl Abort, bank: B) {
     ] {
         assert_eq!(rt;
             call_lent(&mut machine, line, one, &mut buffers),
-            Answer::Done
+            Ok(Answer::Done)
         );
     }
     assert_eq!(rt;
         call_lent(&mut machine, Call::Step(0), one, &mut buffers),
-        Answer::Stepped(Step::Took, 0)
+        Ok(Answer::Stepped(Step::Took, 0))
     );
     assert_eq!(rt; machine.used(), 1);
     // a pop whose push took is entered, so no entry is free for it
     assert_eq!(rt;
         call_lent(&mut machine, Call::Step(1), one, &mut buffers),
-        Answer::Refused(Refusal::RecordFull)
+        Err(Refusal::RecordFull)
     );
     assert_eq!(rt;
         call_lent(&mut machine, Call::Step(1), Lent(1, 3, 2), &mut buffers),
-        Answer::Stepped(Step::Took, 0)
+        Ok(Answer::Stepped(Step::Took, 0))
     );
     assert_eq!(rt;
         call_lent(&mut machine, Call::Step(2), Lent(1, 3, 2), &mut buffers),
-        Answer::Refused(Refusal::RecordFull)
+        Err(Refusal::RecordFull)
     );
     assert_eq!(rt;
         call_lent(&mut machine, Call::Step(2), Lent(1, 3, 3), &mut buffers),
-        Answer::Stepped(Step::Took, 1)
+        Ok(Answer::Stepped(Step::Took, 1))
     );
     // the pop took first
     for line in [Call::Open(1, 3), Call::Pop(1), Call::Push(0, 7)] {
         assert_eq!(rt;
             call_lent(&mut machine, line, one, &mut buffers),
-            Answer::Done
+            Ok(Answer::Done)
         );
     }
     assert_eq!(rt;
         call_lent(&mut machine, Call::Step(1), one, &mut buffers),
-        Answer::Stepped(Step::Took, 0)
+        Ok(Answer::Stepped(Step::Took, 0))
     );
     assert_eq!(rt; machine.used(), 0);
     assert_eq!(rt;
         call_lent(&mut machine, Call::Step(0), one, &mut buffers),
-        Answer::Refused(Refusal::RecordFull)
+        Err(Refusal::RecordFull)
     );
     assert_eq!(rt;
         call_lent(&mut machine, Call::Step(0), Lent(1, 3, 2), &mut buffers),
-        Answer::Stepped(Step::Took, 0)
+        Ok(Answer::Stepped(Step::Took, 0))
     );
     assert_eq!(rt; machine.used(), 2);
 }
@@ -221,7 +222,7 @@ fn waits_at_rest<B: Bank + Drop>(rt: &impl Abort, bank: B) {
     ] {
         assert_eq!(rt;
             call_lent(&mut machine, line, Lent(1, 3, 6), &mut buffers),
-            Answer::Done
+            Ok(Answer::Done)
         );
     }
     assert!(rt; !machine.at_rest());
@@ -230,7 +231,7 @@ fn waits_at_rest<B: Bank + Drop>(rt: &impl Abort, bank: B) {
     for line in [Call::Open(2, 3), Call::Pop(0), Call::Pop(1)] {
         assert_eq!(rt;
             call_lent(&mut machine, line, Lent(2, 3, 6), &mut buffers),
-            Answer::Done
+            Ok(Answer::Done)
         );
     }
     assert!(rt; !machine.at_rest());

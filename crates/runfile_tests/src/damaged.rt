@@ -5,7 +5,8 @@ use runfile::file::read_run;
 use std::process::Abort;
 use std::test::Fail;
 
-// A file: the first `length` bytes of a lawful one (followed by zeros), with some bytes changed.
+// A file: the first `length` bytes of a lawful one (followed by zeros), with some bytes changed. What is expected is the
+// number that users are told, so it is a number here.
 struct Damage {
     name: &'static str,
     length: usize,

@@ -85,6 +85,7 @@ fn goes_round<B: Bank>(rt: &impl Abort, bank: &mut B) {
     }
 }
 
+// Each bank has tests by its own name, of one line over what is generic.
 #[test]
 fn word_bank_runs_as_an_array(rt: HostRuntime) {
     let mut bank = WordBank::new();

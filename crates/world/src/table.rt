@@ -4,8 +4,8 @@ use turns::shape::Shape;
 use turns::ticket::Ticket;
 
 // How many push and pop tickets are handed out, how many entries of the record are used, and the phase of each thread.
-// Rows past the shape's threads stay idle. The record lies in memory of a fixed length that the caller lends, so the
-// count of its used entries is kept here.
+// Rows past the shape's threads stay idle. There is no heap: the rows are an array, and the record is the
+// caller's, in memory of a fixed length, so that the count of its used entries is kept here.
 #[derive(Clone, Copy)]
 pub struct Table {
     pub shape: Shape,
