@@ -4,7 +4,7 @@ ghost use Rattle.std.specs.Prelude.{◌≡◌, ℕ};
 use super::fault::Fault;
 
 pub trait Numbered: Copy {
-    // The number that users are told.
+    // The number that users are told. Each impl casts its own enum, since a cast needs the concrete type.
     ghost told: { Self → ℕ };
 
     fn number(self) -> u8

@@ -54,6 +54,7 @@ pub fn queue_bench_play(file: &[u8], area: &mut [u8]) -> i64
     ensures promise { Promise file.now (length area.old) result area.new }
 {
     area.fill(0);
+    // By `map_or(NO_ROOM, ..)` in place of the inner match the proof did not close.
     match play_file(file, area) {
         Ok(length) => length as i64,
         Err(fault) => match write_refusal(area, fault) {

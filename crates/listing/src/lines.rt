@@ -40,7 +40,8 @@ pub(crate) fn append_schedule(
     out.extend_from_slice(b"\n")
 }
 
-// The operations of a program, as far as they are right.
+// The operations of a program, as far as they are right. (`map_while(Result::ok)` over the iterator is refused in what
+// the check generates.)
 fn append_operations<E: Element>(out: &mut Vec<u8>, program: &[u8]) -> Result<(), AllocError>
     ensures { OnOk result (out.new.items ≡ out.old.items ++ flat_map (operation_text E.Element.printed) (operations_of E.Element.format 0 program.now)) }
 {

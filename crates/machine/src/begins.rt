@@ -37,7 +37,7 @@ impl<B: Bank> Machine<B> {
         Ok(())
     }
 
-    // An idle thread begins to pop. Begins are two, since a pop has no element and no hand.
+    // An idle thread begins to pop. It is a call of its own, since it is lent no hands and has no element.
     pub fn begin_pop(&mut self, thread: u8) -> Result<(), Refusal>
         ensures bank { self.new.bank ≡ self.old.bank }
         ensures answer { (result, self.new.table) ≡ pop_begun self.old.table thread }

@@ -26,7 +26,7 @@ fn past_wait(kind: Kind, ticket: Ticket) -> Phase
 impl<B: Bank> Machine<B> {
     // One step of a thread: the thread's phase and the bank's answer together say which, and the
     // phase is replaced in place. A refused step alters nothing. The match on both, over the one row
-    // that is lent, is a form that the project asks for.
+    // that is lent, is a form that the project asks for, and so are cells, hands and record lent one by one.
     pub fn step<T: Copy>(
         &mut self,
         thread: u8,

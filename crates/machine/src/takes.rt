@@ -44,7 +44,7 @@ fn waiting_place(threads: &[Phase], ticket: Ticket) -> Option<usize>
 }
 
 // The thread of the pop that is entered behind the push that takes now, or 0 where none waits with
-// its ticket, which no run comes to.
+// its ticket, which no run comes to: the definition says 0, and an entry has no room for none.
 fn early_popper(table: &Table) -> u8
     ensures { result ≡ early_popper table.now }
 {
@@ -53,8 +53,8 @@ fn early_popper(table: &Table) -> u8
 }
 
 // Enters the push that takes now, with this element. Where the pop of its ticket took before, that
-// is entered directly behind. Pushes and pops enter apart, since what they write has nothing in
-// common.
+// is entered directly behind. Pushes and pops enter apart, since a push may enter a pop
+// and a pop never a push; so each has the room that it needs in its own clause.
 fn enter_push<T: Copy>(table: &Table, thread: u8, element: T, entries: &mut [Entry<T>])
     requires room { table.now.used + push_writes table.now ≤ length entries.old }
     ensures { entries.new ≡ push_entered table.now thread entries.old element }
@@ -93,7 +93,8 @@ fn enter_pop<T: Copy>(table: &Table, thread: u8, hand: T, entries: &mut [Entry<T
     }
 }
 
-// A thread takes a ticket of this kind, with what is in its hand.
+// A thread takes a ticket of this kind, with what is in its hand. Its callers' facts stand here once; a struct for
+// them would be made for this call alone.
 pub(crate) fn take<T: Copy>(
     table: &mut Table,
     kind: Kind,

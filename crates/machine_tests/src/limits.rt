@@ -41,7 +41,8 @@ fn round(ticket: Ticket) -> [(Call, Result<Answer, Refusal>); 13] {
     ]
 }
 
-// Hands out all tickets up to the last, 65,534, and lets both threads begin once more.
+// Hands out all tickets up to the last, 65,534, and lets both threads begin once more. The record of so many
+// entries is on the heap, so these buffers are no `Buffers`.
 fn hand_out<B: Bank>(
     rt: &impl Abort,
     machine: &mut Machine<B>,

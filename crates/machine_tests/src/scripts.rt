@@ -138,63 +138,47 @@ fn begins_with(rt: &impl Abort, buffers: &Buffers, expected: &[(Kind, u8, Ticket
     }
 }
 
-fn push_then_pop<B: Bank + Drop>(rt: &impl Abort, bank: B) {
+// Plays a script on this bank; the record begins with these entries afterwards.
+fn leaves<B: Bank + Drop>(
+    rt: &impl Abort,
+    bank: B,
+    script: &[Line],
+    lent: Lent,
+    expected: &[(Kind, u8, Ticket, u32)],
+) {
     let mut machine = Machine::new(bank);
     let mut buffers = Buffers::new();
-    play(
-        rt,
-        &mut machine,
-        &PUSH_THEN_POP,
-        Lent(1, 2, 4),
-        &mut buffers,
-    );
-    begins_with(
-        rt,
-        &buffers,
-        &[
-            (Kind::Push, 0, 0, 7),
-            (Kind::Pop, 1, 0, 7),
-            (Kind::Pop, 60, 50, 70),
-        ],
-    );
+    play(rt, &mut machine, script, lent, &mut buffers);
+    begins_with(rt, &buffers, expected);
+}
+
+fn push_then_pop<B: Bank + Drop>(rt: &impl Abort, bank: B) {
+    let expected = [
+        (Kind::Push, 0, 0, 7),
+        (Kind::Pop, 1, 0, 7),
+        (Kind::Pop, 60, 50, 70),
+    ];
+    leaves(rt, bank, &PUSH_THEN_POP, Lent(1, 2, 4), &expected);
 }
 
 fn pops_first<B: Bank + Drop>(rt: &impl Abort, bank: B) {
-    let mut machine = Machine::new(bank);
-    let mut buffers = Buffers::new();
-    play(rt, &mut machine, &POPS_FIRST, Lent(2, 4, 5), &mut buffers);
-    begins_with(
-        rt,
-        &buffers,
-        &[
-            (Kind::Push, 0, 0, 7),
-            (Kind::Pop, 3, 0, 7),
-            (Kind::Push, 2, 1, 8),
-            (Kind::Pop, 1, 1, 8),
-            (Kind::Pop, 60, 50, 70),
-        ],
-    );
+    let expected = [
+        (Kind::Push, 0, 0, 7),
+        (Kind::Pop, 3, 0, 7),
+        (Kind::Push, 2, 1, 8),
+        (Kind::Pop, 1, 1, 8),
+        (Kind::Pop, 60, 50, 70),
+    ];
+    leaves(rt, bank, &POPS_FIRST, Lent(2, 4, 5), &expected);
 }
 
 fn stores_crossed<B: Bank + Drop>(rt: &impl Abort, bank: B) {
-    let mut machine = Machine::new(bank);
-    let mut buffers = Buffers::new();
-    play(
-        rt,
-        &mut machine,
-        &STORES_CROSSED,
-        Lent(2, 3, 6),
-        &mut buffers,
-    );
-    begins_with(
-        rt,
-        &buffers,
-        &[
-            (Kind::Push, 0, 0, 7),
-            (Kind::Push, 1, 1, 8),
-            (Kind::Pop, 2, 0, 7),
-        ],
-    );
+    let expected = [
+        (Kind::Push, 0, 0, 7),
+        (Kind::Push, 1, 1, 8),
+        (Kind::Pop, 2, 0, 7),
+    ];
+    leaves(rt, bank, &STORES_CROSSED, Lent(2, 3, 6), &expected);
 }
 
 #[test]

@@ -54,7 +54,8 @@ impl<'a, 'r, B, E> Player<'a, 'r, B, E> {
 }
 
 impl<B: Bank, E: Element> Player<'_, '_, B, E> {
-    // A thread's next operation; none at the end of its program.
+    // A thread's next operation; none at the end of its program. The thread is one of the machine's, which
+    // `move_thread` knows by its phase.
     fn next_operation(&self, thread: usize) -> Option<Operation<E>>
         requires { thread < 64 }
         ensures value { result ≡ next_operation E.Element.format (contents_of self.now.run.now) thread (slice_index self.now.begun thread) }

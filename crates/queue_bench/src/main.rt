@@ -14,7 +14,7 @@ fn run(rt: &HostRuntime) -> anyhow::Result<()> {
     rt.stdin().take(LONGEST as u64 + 1).read_to_end(&mut file)?;
     let mut area = vec![in rt.alloc(); 0; AREA_LENGTH]?;
     let answer = queue_bench_play(&file, &mut area);
-    // A negative answer would say that the area has no room for any text.
+    // The call answers as C reads it: a negative number would say that the area has no room for any text.
     let length = usize::try_from(answer).unwrap_or(0).min(area.len());
     rt.stdout().write_all(&area[0..length])?;
     Ok(())

@@ -12,7 +12,8 @@ use history::entry::Entry;
 use runfile::element::Element;
 use turns::shape::Shape;
 
-// Writes the heading, the first `used` entries (all where there are fewer) in order and the closing line to the start of the
+// Writes the heading, the first `used` entries in order (all where there are fewer, so that no caller has to
+// show that its count is within) and the closing line to the start of the
 // area, and answers the report's length; or writes the pieces that fit, and answers their length.
 pub fn write_report<E: Element>(
     area: &mut [u8],

@@ -22,12 +22,13 @@ fn heading_refused(new: NewReport, area: &mut [u8], shape: &Shape) -> Result<New
     }
 }
 
-fn heading_accepted(new: NewReport, area: &mut [u8], shape: &Shape) -> Result<OpenReport, Fail> {
-    match new.heading(area, shape) {
-        Ok(open) => Ok(open),
+// A piece that has to be accepted; a report that is given back is let go.
+fn accepted<T, R: Unclosed>(answer: Result<T, Refused<R>>) -> Result<T, Fail> {
+    match answer {
+        Ok(next) => Ok(next),
         Err(Refused { refusal: _, report }) => {
             let _ = report.abandon();
-            Err(Fail::new("the heading was refused"))
+            Err(Fail::new("the piece was refused"))
         }
     }
 }
@@ -47,16 +48,6 @@ fn closing_refused(open: OpenReport, area: &mut [u8]) -> Result<OpenReport, Fail
     }
 }
 
-fn closing_accepted(open: OpenReport, area: &mut [u8]) -> Result<ClosedReport, Fail> {
-    match open.closing(area, counts(1, 1, 0)) {
-        Ok(closed) => Ok(closed),
-        Err(Refused { refusal: _, report }) => {
-            let _ = report.abandon();
-            Err(Fail::new("the closing line was refused"))
-        }
-    }
-}
-
 // Every piece is refused first, by an area that is one byte too short, and then accepted.
 #[test]
 fn refused_and_accepted(rt: HostRuntime) -> Result<(), Fail> {
@@ -66,12 +57,12 @@ fn refused_and_accepted(rt: HostRuntime) -> Result<(), Fail> {
     let mut for_push = [b'.'; 28];
     let mut for_closing = [b'.'; 49];
     let new = heading_refused(NewReport::new(), &mut for_heading, &shape)?;
-    let mut open = heading_accepted(new, &mut area, &shape)?;
+    let mut open = accepted(new.heading(&mut area, &shape))?;
     let short = open.entry(&mut for_push, push(0, 0, number(7)));
     let first = open.entry(&mut area, push(0, 0, number(7)));
     let second = open.entry(&mut area, pop(1, 0, number(7)));
     let open = closing_refused(open, &mut for_closing)?;
-    let closed = closing_accepted(open, &mut area)?;
+    let closed = accepted(open.closing(&mut area, counts(1, 1, 0)))?;
     assert_eq!(rt; closed.finish(), TEXT.len());
     assert_eq!(rt; short, Err(AreaRefusal::ShortArea));
     assert_eq!(rt; first, Ok(()));
@@ -89,7 +80,7 @@ fn another_area(rt: HostRuntime) -> Result<(), Fail> {
     let shape = Shape::new(2, 2)?;
     let mut area = [b'.'; 64];
     let mut other = [b'.'; 8];
-    let mut open = heading_accepted(NewReport::new(), &mut area, &shape)?;
+    let mut open = accepted(NewReport::new().heading(&mut area, &shape))?;
     let entry = open.entry(&mut other, push(0, 0, number(7)));
     let open = closing_refused(open, &mut other)?;
     assert_eq!(rt; open.abandon(), 18);

@@ -15,11 +15,10 @@ pub fn push<E: Copy>(thread: u8, ticket: u16, element: E) -> Entry<E> {
 }
 
 pub fn pop<E: Copy>(thread: u8, ticket: u16, element: E) -> Entry<E> {
+    let kind = Kind::Pop;
     Entry {
-        kind: Kind::Pop,
-        thread,
-        ticket,
-        element,
+        kind,
+        ..push(thread, ticket, element)
     }
 }
 
@@ -36,10 +35,10 @@ pub fn plain(sender: u8, serial: u32) -> Letter {
 }
 
 pub fn urgent(sender: u8, serial: u32) -> Letter {
+    let tone = Tone::Urgent;
     Letter {
-        sender,
-        tone: Tone::Urgent,
-        serial,
+        tone,
+        ..plain(sender, serial)
     }
 }
 

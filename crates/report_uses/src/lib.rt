@@ -27,6 +27,7 @@ fn with_entry(
     ensures answer { result ≡ entered «open» area.old (line_for number_text entry) }
     ensures after { area.new ≡ left_at area.old «open».written (line_for number_text entry) }
 {
+    // `?` would let the open report go, and it has to be abandoned.
     match open.entry(area, entry) {
         Ok(()) => Ok(open),
         Err(refusal) => Err(refusal.at(open.abandon())),

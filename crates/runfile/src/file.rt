@@ -48,8 +48,9 @@ fn read_bodies<'a>(file: &TabledFile<'a>) -> Result<Bodies<'a>, Fault>
     cut_bodies(file)
 }
 
-// Refuses programs of one kind of elements at the first wrong operation; answers where they end. The bound on places is
-// of another sum in each function, so it is no invariant of one struct.
+// Refuses programs of one kind of elements at the first wrong operation; answers where they end.
+// The bound on places stays a `requires`: a struct of bytes with their place would have to be made, with this same
+// fact to show, before each call.
 fn check_kind(element: ElementKind, programs: &[&[u8]], place: usize) -> Result<usize, Fault>
     requires { place + length (flat_map (λ p. p) (map (λ p. p.now) programs.now)) ≤ 49152 }
     ensures value { result ≡ programs_checked element (map (λ p. p.now) programs.now) place }

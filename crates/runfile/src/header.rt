@@ -15,7 +15,8 @@ pub struct Header {
     pub bank: BankKind,
 }
 
-// The shape body at `place`, of a file whose table has `count` entries.
+// The shape body at `place`, of a file whose table has `count` entries. Its place is one of many in the file, so the
+// bound on it is no invariant of what is passed.
 pub(crate) fn read_header(body: &[u8], count: Count, place: usize) -> Result<Header, Fault>
     requires { place ≤ 49152 }
     ensures value { head_read result ≡ headed count.entries body.now place }

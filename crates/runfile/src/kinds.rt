@@ -28,7 +28,7 @@ pub(crate) enum BodyKind {
     Main = 4,
 }
 
-// A byte that stands for none of them.
+// A byte that stands for no kind, or no tone.
 #[derive(Clone, Copy, PartialEq, Eq, Debug)]
 pub struct UnknownKind(pub u8);
 

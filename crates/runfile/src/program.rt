@@ -44,6 +44,7 @@ impl<E: Element> Iterator for Operations<'_, E> {
             return None;
         }
         let read = read_operation::<E>(self.rest, self.place);
+        // Behind a wrong operation nothing is read. A match, since `map_or` would hide this case in an argument.
         let width = match &read {
             Ok(operation) => operation.byte_count(),
             Err(_) => self.rest.len(),
@@ -54,7 +55,8 @@ impl<E: Element> Iterator for Operations<'_, E> {
     }
 }
 
-// Refuses a program at its first wrong operation.
+// Refuses a program at its first wrong operation. What it goes over is made here, from the place that `check_programs`
+// sums up.
 fn check_program<E: Element>(program: &[u8], place: usize) -> Result<(), Fault>
     requires { place + length program.now ≤ 49152 }
     ensures { result ≡ sound (operations E.Element.format 0 program.now place) }
@@ -71,6 +73,7 @@ fn check_program<E: Element>(program: &[u8], place: usize) -> Result<(), Fault>
 }
 
 // Refuses programs that stand one after another from `place` on, at the first wrong operation; answers where they end.
+// `at` is the place of the next one; as a fold its `?` would be in a closure, which is no plainer.
 pub(crate) fn check_programs<E: Element>(programs: &[&[u8]], place: usize) -> Result<usize, Fault>
     requires { place + length (flat_map (λ p. p) (map (λ p. p.now) programs.now)) ≤ 49152 }
     ensures value { result ≡ programmed E.Element.format (map (λ p. p.now) programs.now) place }

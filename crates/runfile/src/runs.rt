@@ -1,5 +1,5 @@
 // A run file that was read: its parts lie in the caller's bytes.
-ghost use Rattle.std.specs.Prelude.{◌≡◌, map};
+ghost use Rattle.std.specs.Prelude.{◌≡◌, ◌+◌, ◌<◌, [], map, slice_index_or};
 ghost use Rattle.std.specs.Option.{option_map};
 ghost use Rattle.runfile.specs.Files.{contents_of, lead_in_in, main_in, program_of, programs_in};
 
@@ -31,14 +31,21 @@ impl<'a> RunFile<'a> {
     pub fn lead_in(&self) -> &'a [u8]
         ensures { result.now ≡ lead_in_in (contents_of self.now).header.threads (contents_of self.now).bodies }
     {
-        let threads = self.header.shape.threads() as usize;
-        self.bodies.cuts[1 + threads]
+        self.after_programs(0)
     }
 
     pub fn main(&self) -> &'a [u8]
         ensures { result.now ≡ main_in (contents_of self.now).header.threads (contents_of self.now).bodies }
     {
+        self.after_programs(1)
+    }
+
+    // One of the two bodies behind the programs.
+    fn after_programs(&self, index: usize) -> &'a [u8]
+        requires { index < 2 }
+        ensures { result.now ≡ slice_index_or (contents_of self.now).bodies (1 + (contents_of self.now).header.threads + index) [] }
+    {
         let threads = self.header.shape.threads() as usize;
-        self.bodies.cuts[2 + threads]
+        self.bodies.cuts[1 + threads + index]
     }
 }

@@ -13,7 +13,8 @@ fn first_absent(schedule: &[u8], threads: u8) -> Option<usize>
     schedule.iter().position(|thread| *thread >= threads)
 }
 
-// Refuses a schedule at its first thread that the run does not have.
+// Refuses a schedule at its first thread that the run does not have. Bytes and place are two parameters, as a struct of
+// both would be made for this call alone, with the same fact to show.
 pub(crate) fn check_schedule(schedule: &[u8], threads: u8, place: usize) -> Result<(), Fault>
     requires { place + length schedule.now ≤ 49152 }
     ensures { result ≡ scheduled threads schedule.now place }

@@ -13,7 +13,8 @@ pub trait Piece: Copy {
     fn width(self) -> usize
         ensures { result ≡ length (bytes self) };
 
-    // Puts the piece whole at the start of the area, or refuses and leaves the area alone.
+    // Puts the piece whole at the start of the area, or refuses and leaves the area alone. Each impl tests the room:
+    // what fills a place of exact length would be a public function with a precondition, and there is none.
     fn write(self, area: &mut [u8]) -> Result<usize, AreaRefusal>
         ensures answer { result ≡ wrote area.old (bytes self) }
         ensures after { area.new ≡ left area.old (bytes self) };

@@ -29,6 +29,17 @@ fn checked(
     }
 }
 
+// The same of a piece, for areas of every length.
+fn at_every_length<P: Piece>(rt: &impl Abort, piece: P, text: &[u8]) -> Result<(), Fail> {
+    for length in 0..=25 {
+        let mut dots = [b'.'; 25];
+        let area = &mut dots[0..length];
+        let answer = piece.write(area);
+        checked(rt, answer, area, text)?;
+    }
+    Ok(())
+}
+
 #[test]
 fn numbers_at_every_length(rt: HostRuntime) -> Result<(), Fail> {
     let numbers: [(u64, &[u8]); 6] = [
@@ -41,25 +52,15 @@ fn numbers_at_every_length(rt: HostRuntime) -> Result<(), Fail> {
     ];
     for (n, spelled) in numbers {
         assert_eq!(rt; decimal_width(n), spelled.len());
-        for length in 0..=25 {
-            let mut dots = [b'.'; 25];
-            let area = &mut dots[0..length];
-            let answer = n.write(area);
-            checked(&rt, answer, area, spelled)?;
-        }
+        at_every_length(&rt, n, spelled)?;
     }
     Ok(())
 }
 
 #[test]
 fn bytes_at_every_length(rt: HostRuntime) -> Result<(), Fail> {
-    for length in 0..=25 {
-        let mut dots = [b'.'; 25];
-        let area = &mut dots[0..length];
-        let answer = b"slots 2 threads 2\n".as_slice().write(area);
-        checked(&rt, answer, area, b"slots 2 threads 2\n")?;
-    }
-    Ok(())
+    let line = b"slots 2 threads 2\n".as_slice();
+    at_every_length(&rt, line, line)
 }
 
 #[test]

@@ -8,7 +8,7 @@ ghost use Rattle.std.proofs.Common.{rules};
 use super::bank::{Bank, SLOTS};
 use super::ticket::Turn;
 
-// Every byte is lawful. Banks lie in memory of a fixed length. It is stated since a law over every bank cannot read it off
+// Every byte is lawful. Banks lie in memory of a fixed length. The length is stated since a law over every bank cannot read it off
 // the type.
 #[derive(Drop)]
 pub struct NibbleBank {

@@ -11,7 +11,7 @@ use super::ticket::Turn;
 // The turn stands above this many bits.
 const LOW_BITS: u32 = 6;
 
-// The low bits of each word are zero. Banks lie in memory of a fixed length. It is stated since a law over every bank
+// The low bits of each word are zero. Banks lie in memory of a fixed length. The length is stated since a law over every bank
 // cannot read it off the type.
 #[derive(Drop)]
 pub struct WordBank {

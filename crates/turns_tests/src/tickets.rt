@@ -88,17 +88,13 @@ const SHAPES: [(u8, u8, bool); 8] = [
 #[test]
 fn only_few_make_a_shape(rt: HostRuntime) {
     for (slots, threads, made) in SHAPES {
-        match Shape::new(slots, threads) {
-            Ok(shape) => {
-                assert!(rt; made);
-                assert_eq!(rt; shape.slots(), slots);
-                assert_eq!(rt; shape.threads(), threads);
-            }
-            Err(refusal) => {
-                assert!(rt; !made);
-                assert_eq!(rt; refusal, ShapeRefusal::BadShape);
-                assert_eq!(rt; refusal.number(), 9);
-            }
-        }
+        let shape = Shape::new(slots, threads).map(|shape| (shape.slots(), shape.threads()));
+        let expected = if made {
+            Ok((slots, threads))
+        } else {
+            Err(ShapeRefusal::BadShape)
+        };
+        assert_eq!(rt; shape, expected);
     }
+    assert_eq!(rt; ShapeRefusal::BadShape.number(), 9);
 }

@@ -1,9 +1,8 @@
 // Why a call is declined, with the number and the word that users are told.
-ghost use Rattle.std.specs.Prelude.{Some};
+ghost use Rattle.std.specs.Prelude.{◌≡◌, Some};
 ghost use Rattle.world.specs.Refusals.{number_of, word_of};
 
 use faults::numbered::Numbered;
-use std::error::Error;
 use std::fmt;
 
 #[derive(Clone, Copy, PartialEq, Eq, Debug)]
@@ -27,11 +26,12 @@ impl Numbered for Refusal {
     }
 }
 
-impl fmt::Display for Refusal {
-    ghost output = { λ refusal. Some (word_of refusal) };
-
-    fn fmt<W: fmt::Write>(&self, f: &mut fmt::Formatter<W>) -> fmt::Result {
-        let word = match self {
+impl Refusal {
+    // The word that users are told.
+    pub fn word(self) -> &'static str
+        ensures { result.now ≡ word_of self }
+    {
+        match self {
             Refusal::Stranger => "stranger",
             Refusal::Misfit => "misfit",
             Refusal::Busy => "busy",
@@ -41,9 +41,14 @@ impl fmt::Display for Refusal {
             Refusal::Unfinished => "unfinished",
             Refusal::ShortCycle => "short cycle",
             Refusal::BadShape => "bad shape",
-        };
-        f.write_str(word)
+        }
     }
 }
 
-impl Error for Refusal {}
+impl fmt::Display for Refusal {
+    ghost output = { λ refusal. Some (word_of refusal) };
+
+    fn fmt<W: fmt::Write>(&self, f: &mut fmt::Formatter<W>) -> fmt::Result {
+        f.write_str(self.word())
+    }
+}

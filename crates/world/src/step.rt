@@ -1,5 +1,5 @@
 // What a step did.
-ghost use Rattle.std.specs.Prelude.{Some};
+ghost use Rattle.std.specs.Prelude.{◌≡◌, Some};
 ghost use Rattle.world.specs.StepNames.{name_of};
 
 use std::fmt;
@@ -15,12 +15,12 @@ pub enum Step {
     Completed,
 }
 
-// The name by which the step answers.
-impl fmt::Display for Step {
-    ghost output = { λ step. Some (name_of step) };
-
-    fn fmt<W: fmt::Write>(&self, f: &mut fmt::Formatter<W>) -> fmt::Result {
-        f.write_str(match self {
+impl Step {
+    // The name by which the step answers.
+    pub fn name(self) -> &'static str
+        ensures { result.now ≡ name_of self }
+    {
+        match self {
             Step::Took => "took",
             Step::Waited => "waited",
             Step::Passed => "passed",
@@ -28,6 +28,14 @@ impl fmt::Display for Step {
             Step::Read => "read",
             Step::Emptied => "emptied",
             Step::Completed => "completed",
-        })
+        }
+    }
+}
+
+impl fmt::Display for Step {
+    ghost output = { λ step. Some (name_of step) };
+
+    fn fmt<W: fmt::Write>(&self, f: &mut fmt::Formatter<W>) -> fmt::Result {
+        f.write_str(self.name())
     }
 }
