@@ -46,22 +46,10 @@ by_error false x e y h = absurd (let z : ◌≡◌ {A = ℕ} 0 1 = cc in omega a
 by_true : {A : Type 0} (b : Bool) (x y : A) → b ≡ true → cond b x y ≡ x
 by_true b x y e = ap (λ t. cond t x y) e
 
--- nothing is written where a refusal is told
-pub refused_writes : (r : Result ℕ Fault) (x : Fault) (before after : List ℕ) (t : Result (List ℕ) Fault) → r ≡ Err x → t ≡ Err x → Writes r before after t
-refused_writes r x before after t e h = subst (λ (q : Result ℕ Fault). Writes q before after t) (sym e) h
-
-pub none_made : (P : ℕ → Type 0) (r : Result ℕ Fault) (x : Fault) → r ≡ Err x → IfOk r P
-none_made P r x e = subst (λ (q : Result ℕ Fault). IfOk q P) (sym e) tt
-
 -- what came up as accepted was accepted below
 pub came : {A E : Type 0} (D : Type 0) (r : Result A E) (v : A) → MatchResult r (λ x. ◌≡◌ {A = Result A D} (Ok v) (Ok x)) (λ _. ⊥) → r ≡ Ok v
 came D (Ok x) v h = let e : x ≡ v = cc in ap Ok e
 came D (Err e) v h = absurd h
-
--- and what came up as refused was refused
-pub went : {A E X : Type 0} (wrap : E → X) (r : Result A E) (x : X) → MatchResult r (λ y. ◌≡◌ {A = Result A X} (Err x) (Ok y)) (λ e. x ≡ wrap e) → (e : E) × (r ≡ Err e) × (x ≡ wrap e)
-went wrap (Ok y) x h = absurd (let z : ◌≡◌ {A = ℕ} 0 1 = cc in omega arith)
-went wrap (Err e) x h = (e, refl, h)
 
 -- what is told of a run does not depend on what the machine was before its opening
 module _ {T : Type 0} (form : Format T) (printed : T → List ℕ) (room cycle : ℕ) (c : Contents) (shape : Shape) (row : List ℕ) (table : Table) (cells : List (Cell T)) (hands : List T) (entries : List (Entry T)) where

@@ -1,5 +1,4 @@
-use Rattle.std.proofs.Common.{◌≡◌, ℕ, List, length, OnOk, Err, Result, sym, ap, ◌∙◌, subst}
-use Rattle.std.proofs.lemmas.Result.{err_from_is_err_and}
+use Rattle.std.proofs.Common.{◌≡◌, ℕ, List, length, OnOk, Result, sym, ap, ◌∙◌, subst}
 use Rattle.faults.specs.declared.fault.Fault.{Fault as FaultOf}
 use Rattle.report.specs.declared.counts.Counts.{Counts}
 use Rattle.runfile.specs.Files.{contents_of}
@@ -7,29 +6,9 @@ use Rattle.world.specs.declared.refusal.Refusal.{Refusal}
 use Rattle.world.specs.Calls.{new_world}
 use Rattle.world.specs.Worlds.{world}
 use Rattle.play.specs.Runs.{Reached, ran}
-use Rattle.host.specs.declared.fault.Fault.TheVariants.{Machine}
-use Rattle.host.specs.Tells.{Faithful, Writes, counts_in, text_in, told_end}
-use Rattle.host.proofs.Telling.{came, none_made, refused_writes, reported_up, told_anyway, went}
+use Rattle.host.specs.Tells.{Faithful, Writes, counts_in, text_in}
+use Rattle.host.proofs.Telling.{came, reported_up, told_anyway}
 use Rattle.host.proofs.reporting.report_run.Goals as goal
-
-pub returns-in_err-map_err : goal.returns-in_err-map_err
-returns-in_err-map_err g c =
-    let form = g.E.Element.format in
-    let printed = g.E.Element.printed in
-    let cycle = g.B.Bank.CYCLE in
-    let run = contents_of c.args.run.now in
-    let shape = c.args.run.now.header.shape in
-    let room = length c.args.area.now in
-    let m = c.new-machine.result in
-    let p = ran form cycle run shape (world (g.B.Bank.row m.bank) m.table c.args.cells.now c.args.hands.now c.args.entries.now) in
-    let anyway = told_anyway form printed room cycle run shape (g.B.Bank.row m.bank) m.table c.args.cells.now c.args.hands.now c.args.entries.now in
-    let up = err_from_is_err_and c.from_residual.result c.from_residual.ensures.1 in
-    let fault = went Machine c.play_run.result _ c.in_err-map_err.ensures.cases in
-    let refused = sym fault.1 ∙ ap (λ q. q.0) c.play_run.ensures.answer in
-    record {
-      writes = refused_writes c.from_residual.result up.0 _ _ _ up.1 (sym anyway ∙ ap (λ (r : Result (Unit {0}) (FaultOf Refusal)). told_end printed shape room r p.1) (sym refused) ∙ ap (λ f. Err f) (sym fault.2 ∙ sym up.2));
-      faithful = none_made _ c.from_residual.result up.0 up.1;
-    }
 
 pub returns : goal.returns
 returns g c =
