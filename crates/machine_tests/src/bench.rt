@@ -49,6 +49,8 @@ pub const NO_ENTRY: Entry<u32> = Entry {
     element: 70,
 };
 
+// A machine, its buffers and what a call is lent of them stay three parameters: tests look at each between calls, and
+// lend other parts from call to call.
 #[derive(Clone, Copy, PartialEq, Eq, Debug)]
 pub struct Buffers {
     pub cells: [Cell<u32>; CELLS],

@@ -16,7 +16,7 @@ use turns::bank::Bank;
 use turns::shape::Shape;
 use world::cell::Cell;
 
-// Opens the machine with a shape and plays the whole run on it. Where nothing is refused, the world at
+// Opens the machine with a shape, which need not be the file's, and plays the whole run on it. Where nothing is refused, the world at
 // the end is reached by a run of calls from a newly opened machine, and the record's law is true of it. Cells, hands and
 // record are lent one by one, as the machine's calls take them.
 pub fn play_run<B: Bank, E: Element>(

@@ -7,6 +7,8 @@ use turns::shape::Shape;
 
 const TEXT: &[u8] = b"slots 2 threads 2\npush 0 0 7\npop 1 0 7\nleft 1 1 0\n";
 
+// A match, here and below, since no report can be dropped: what was accepted by mistake is let go by `abandon` or by
+// `finish`, so the two that are refused stay two.
 fn heading_refused(new: NewReport, area: &mut [u8], shape: &Shape) -> Result<NewReport, Fail> {
     match new.heading(area, shape) {
         Ok(open) => {

@@ -91,9 +91,9 @@ module _ (count start : ℕ) (bs : List (List ℕ)) (shape : List ℕ) (first : 
   after_shape h (Ok u) e d = rw (← first, ← e, ← d)
   after_shape h (Err f) e d = rw (← first, ← e, ← d)
 
-pub run_read : (f : RunFile) (count start : ℕ) (shape : List ℕ) (r : Result (Unit {0}) FileFault) → f.header.shape.threads + 3 ≡ count → shape ≡ (get_or f.bodies.cuts 0 nothing).now → Ok (head_of f.header) ≡ headed count shape start → r ≡ run_checked (head_of f.header) (programs_in f.header.shape.threads (contents_of f).bodies) (lead_in_in f.header.shape.threads (contents_of f).bodies) (main_in f.header.shape.threads (contents_of f).bodies) (start + length shape) → bodies_read count (cut_of count f.bodies) start ≡ chain r (λ _. Ok (contents_of f))
-run_read f count start shape r same is e d =
+pub run_read : (f : RunFile) (count start place : ℕ) (shape : List ℕ) (r : Result (Unit {0}) FileFault) → f.header.shape.threads + 3 ≡ count → shape ≡ (get_or f.bodies.cuts 0 nothing).now → Ok (head_of f.header) ≡ headed count shape start → place ≡ start + length shape → r ≡ run_checked (head_of f.header) (programs_in f.header.shape.threads (contents_of f).bodies) (lead_in_in f.header.shape.threads (contents_of f).bodies) (main_in f.header.shape.threads (contents_of f).bodies) place → bodies_read count (cut_of count f.bodies) start ≡ chain r (λ _. Ok (contents_of f))
+run_read f count start place shape r same is e q d =
     let few = f.header.shape.few.1 in
     let long = f.bodies.long in
     let s = is ∙ cut_at f.bodies.cuts (f.header.shape.threads + 3) 0 (omega arith) (omega arith) in
-    rw (← same) (after_shape (f.header.shape.threads + 3) start (cut_of (f.header.shape.threads + 3) f.bodies) shape s (head_of f.header) r (rw (← same) at e) d)
+    rw (← same) (after_shape (f.header.shape.threads + 3) start (cut_of (f.header.shape.threads + 3) f.bodies) shape s (head_of f.header) r (rw (← same) at e) (rw q at d))

@@ -1,5 +1,5 @@
 // Reading a whole run file.
-ghost use Rattle.std.specs.Prelude.{◌≡◌, ◌+◌, ◌≤◌, map, length, drop, IfOk};
+ghost use Rattle.std.specs.Prelude.{◌≡◌, ◌+◌, ◌*◌, ◌≤◌, map, length, drop, IfOk};
 ghost use Rattle.std.specs.List.{flat_map};
 ghost use Rattle.runfile.specs.Files.{bodies_read, contents_of, count_read, counted, divided, lead_in_in, main_in, outcome, parsed, programs_checked, programs_in, run_checked};
 ghost use Rattle.runfile.specs.Forms.{Formed};
@@ -64,6 +64,7 @@ fn check_kind(element: ElementKind, programs: &[&[u8]], place: usize) -> Result<
 }
 
 // Refuses a run at its first wrong operation, then at its first wrong schedule byte; the programs begin at `place`.
+// The bound stays a `requires`, as above.
 fn check_run(run: &RunFile, place: usize) -> Result<(), Fault>
     requires { place + length (flat_map (λ b. b) (drop 1 (contents_of run.now).bodies)) ≤ 49152 }
     ensures { let c = contents_of run.now in result ≡ run_checked c.header (programs_in c.header.threads c.bodies) (lead_in_in c.header.threads c.bodies) (main_in c.header.threads c.bodies) place }
@@ -75,15 +76,16 @@ fn check_run(run: &RunFile, place: usize) -> Result<(), Fault>
     check_schedule(run.main(), threads, end + lead_in.len())
 }
 
-// Reads the shape body, and refuses the others at their first wrong byte; the bodies begin at `start`.
-fn check_bodies<'a>(bodies: Bodies<'a>, count: Count, start: usize) -> Result<RunFile<'a>, Fault>
-    requires { start + length (flat_map (λ b. b) (cut_of count.entries bodies)) ≤ 49152 }
-    ensures { outcome result ≡ bodies_read count.entries (cut_of count.entries bodies.entry) start }
+// Reads the shape body, and refuses the others at their first wrong byte; the bodies begin where the table ends. The
+// bound stays a `requires`, as above.
+fn check_bodies<'a>(bodies: Bodies<'a>, count: Count) -> Result<RunFile<'a>, Fault>
+    requires { 1 + 5 * count.entries + length (flat_map (λ b. b) (cut_of count.entries bodies)) ≤ 49152 }
+    ensures { outcome result ≡ bodies_read count.entries (cut_of count.entries bodies.entry) (1 + 5 * count.entries) }
 {
     let shape = bodies.cuts[0];
-    let header = read_header(shape, count, start)?;
+    let header = read_header(shape, count)?;
     let run = RunFile { header, bodies };
-    check_run(&run, start + shape.len())?;
+    check_run(&run, count.table_end() + shape.len())?;
     Ok(run)
 }
 
@@ -94,5 +96,5 @@ pub fn read_run(file: &[u8]) -> Result<RunFile<'_>, Fault>
 {
     let file = read_table(file)?;
     let bodies = read_bodies(&file)?;
-    check_bodies(bodies, file.count, file.count.table_end())
+    check_bodies(bodies, file.count)
 }

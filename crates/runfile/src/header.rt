@@ -1,5 +1,5 @@
 // The shape body: four bytes that say what the run is made of.
-ghost use Rattle.std.specs.Prelude.{◌≡◌, ◌+◌, ◌≤◌, IfOk};
+ghost use Rattle.std.specs.Prelude.{◌≡◌, ◌+◌, ◌*◌, IfOk};
 ghost use Rattle.runfile.specs.Headers.{head_read, headed};
 
 use super::count::Count;
@@ -15,13 +15,12 @@ pub struct Header {
     pub bank: BankKind,
 }
 
-// The shape body at `place`, of a file whose table has `count` entries. Its place is one of many in the file, so the
-// bound on it is no invariant of what is passed.
-pub(crate) fn read_header(body: &[u8], count: Count, place: usize) -> Result<Header, Fault>
-    requires { place ≤ 49152 }
-    ensures value { head_read result ≡ headed count.entries body.now place }
+// The shape body, which begins where the table of so many entries ends.
+pub(crate) fn read_header(body: &[u8], count: Count) -> Result<Header, Fault>
+    ensures value { head_read result ≡ headed count.entries body.now (1 + 5 * count.entries) }
     ensures threads { IfOk result (λ h. h.shape.threads + 3 ≡ count.entries) }
 {
+    let place = count.table_end();
     let [slots, threads, element, bank] = body else {
         return Err(FileRefusal::Body.at(place));
     };

@@ -32,6 +32,7 @@ pub(crate) enum BodyKind {
 #[derive(Clone, Copy, PartialEq, Eq, Debug)]
 pub struct UnknownKind(pub u8);
 
+// Each kind has impls of its own, whose arms are its variants.
 impl TryFrom<u8> for ElementKind {
     type Error = UnknownKind;
 

@@ -55,8 +55,8 @@ impl<E: Element> Iterator for Operations<'_, E> {
     }
 }
 
-// Refuses a program at its first wrong operation. What it goes over is made here, from the place that `check_programs`
-// sums up.
+// Refuses a program at its first wrong operation. The bound is a `requires`, since the place is what `check_programs`
+// sums up, where a struct of bytes and place would be made with this same fact.
 fn check_program<E: Element>(program: &[u8], place: usize) -> Result<(), Fault>
     requires { place + length program.now ≤ 49152 }
     ensures { result ≡ sound (operations E.Element.format 0 program.now place) }
@@ -73,7 +73,8 @@ fn check_program<E: Element>(program: &[u8], place: usize) -> Result<(), Fault>
 }
 
 // Refuses programs that stand one after another from `place` on, at the first wrong operation; answers where they end.
-// `at` is the place of the next one; as a fold its `?` would be in a closure, which is no plainer.
+// `at` is the place of the next one; as a fold its `?` would be in a closure, which is no plainer. The bound is of the
+// programs' bytes together, which no one value here has.
 pub(crate) fn check_programs<E: Element>(programs: &[&[u8]], place: usize) -> Result<usize, Fault>
     requires { place + length (flat_map (λ p. p) (map (λ p. p.now) programs.now)) ≤ 49152 }
     ensures value { result ≡ programmed E.Element.format (map (λ p. p.now) programs.now) place }

@@ -19,6 +19,7 @@ pub(crate) fn check_schedule(schedule: &[u8], threads: u8, place: usize) -> Resu
     requires { place + length schedule.now ≤ 49152 }
     ensures { result ≡ scheduled threads schedule.now place }
 {
+    // A match, since each case is an answer of its own.
     match first_absent(schedule, threads) {
         Some(index) => Err(FileRefusal::Body.at(place + index)),
         None => Ok(()),

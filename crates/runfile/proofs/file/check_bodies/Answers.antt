@@ -1,4 +1,4 @@
-use Rattle.std.proofs.Common.{◌<◌, length, sym, refl, ap, arith, length-take}
+use Rattle.std.proofs.Common.{◌+◌, ◌*◌, ◌<◌, length, sym, refl, ap, arith, length-take}
 use Rattle.std.proofs.lemmas.List.{length-map}
 use Rattle.std.proofs.lemmas.Result.{err_from_is_err_and}
 use Rattle.runfile.specs.declared.runs.RunFile.{RunFile}
@@ -12,7 +12,7 @@ returns-in_err-header c =
     let n = c.args.count in
     let l = c.args.bodies.long in
     let s = cut_at c.args.bodies.cuts n.entries 0 (omega arith) (omega arith) in
-    rw (p.1, p.2) (sym (shape_fault n.entries c.args.start (cut_of n.entries c.args.bodies) _ s c.in_err-header.field-0.0 c.in_err-header.ensures.value))
+    rw (p.1, p.2) (sym (shape_fault n.entries (1 + 5 * c.args.count.entries) (cut_of n.entries c.args.bodies) _ s c.in_err-header.field-0.0 c.in_err-header.ensures.value))
 
 pub check_run-requires : goal.check_run-requires
 check_run-requires c =
@@ -28,10 +28,10 @@ returns-in_err-check_run c =
     let p = err_from_is_err_and c.from_residual-in_err-check_run.result c.from_residual-in_err-check_run.ensures.1 in
     let f : RunFile = record { header = c.in_ok-header.header; bodies = c.args.bodies } in
     let e = c.in_ok-header.ensures in
-    rw (p.1, p.2) (sym (run_read f c.args.count.entries c.args.start _ _ e.threads refl e.value c.in_err-check_run.ensures))
+    rw (p.1, p.2) (sym (run_read f c.args.count.entries (1 + 5 * c.args.count.entries) _ _ _ e.threads refl e.value (let t = c.table_end.ensures in omega arith) c.in_err-check_run.ensures))
 
 pub returns : goal.returns
 returns c =
     let f : RunFile = record { header = c.in_ok-header.header; bodies = c.args.bodies } in
     let e = c.in_ok-header.ensures in
-    sym (run_read f c.args.count.entries c.args.start _ _ e.threads refl e.value c.in_ok-check_run.ensures)
+    sym (run_read f c.args.count.entries (1 + 5 * c.args.count.entries) _ _ _ e.threads refl e.value (let t = c.table_end.ensures in omega arith) c.in_ok-check_run.ensures)
