@@ -5,7 +5,7 @@ use runfile::letter::{Letter, Tone};
 use runfile::number::Number;
 use std::iter;
 
-pub fn push<E: Copy>(thread: u8, ticket: u16, element: E) -> Entry<E> {
+pub(crate) fn push<E: Copy>(thread: u8, ticket: u16, element: E) -> Entry<E> {
     Entry {
         kind: Kind::Push,
         thread,
@@ -14,7 +14,7 @@ pub fn push<E: Copy>(thread: u8, ticket: u16, element: E) -> Entry<E> {
     }
 }
 
-pub fn pop<E: Copy>(thread: u8, ticket: u16, element: E) -> Entry<E> {
+pub(crate) fn pop<E: Copy>(thread: u8, ticket: u16, element: E) -> Entry<E> {
     let kind = Kind::Pop;
     Entry {
         kind,
@@ -22,11 +22,11 @@ pub fn pop<E: Copy>(thread: u8, ticket: u16, element: E) -> Entry<E> {
     }
 }
 
-pub fn number(value: u32) -> Number {
+pub(crate) fn number(value: u32) -> Number {
     Number { value }
 }
 
-pub fn plain(sender: u8, serial: u32) -> Letter {
+pub(crate) fn plain(sender: u8, serial: u32) -> Letter {
     Letter {
         sender,
         tone: Tone::Plain,
@@ -34,7 +34,7 @@ pub fn plain(sender: u8, serial: u32) -> Letter {
     }
 }
 
-pub fn urgent(sender: u8, serial: u32) -> Letter {
+pub(crate) fn urgent(sender: u8, serial: u32) -> Letter {
     let tone = Tone::Urgent;
     Letter {
         tone,
@@ -42,7 +42,7 @@ pub fn urgent(sender: u8, serial: u32) -> Letter {
     }
 }
 
-pub fn counts(pushes: u16, pops: u16, waiting: usize) -> Counts {
+pub(crate) fn counts(pushes: u16, pops: u16, waiting: usize) -> Counts {
     Counts {
         pushes,
         pops,
@@ -51,7 +51,7 @@ pub fn counts(pushes: u16, pops: u16, waiting: usize) -> Counts {
 }
 
 // Where the last line ends that stands whole in the first `room` bytes of the text.
-pub fn whole_lines(text: &[u8], room: usize) -> usize {
+pub(crate) fn whole_lines(text: &[u8], room: usize) -> usize {
     text.iter()
         .take(room)
         .rposition(|byte| *byte == b'\n')
@@ -59,7 +59,7 @@ pub fn whole_lines(text: &[u8], room: usize) -> usize {
 }
 
 // Whether the area holds the first `size` bytes of the text, and dots everywhere else.
-pub fn holds(area: &[u8], text: &[u8], size: usize) -> bool {
+pub(crate) fn holds(area: &[u8], text: &[u8], size: usize) -> bool {
     let dots = iter::repeat(&b'.');
     let wanted = text.iter().take(size).chain(dots);
     area.iter().zip(wanted).all(|(byte, wanted)| byte == wanted)
