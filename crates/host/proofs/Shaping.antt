@@ -1,6 +1,7 @@
 -- The shape of a file that was accepted, and buffers cut to it.
-use Rattle.std.proofs.Common.{◌≡◌, ℕ, ◌≤◌, List, length, take, IfOk, Result, sym, ap, ◌∙◌, subst, arith}
+use Rattle.std.proofs.Common.{◌≡◌, ℕ, ◌≤◌, List, length, take, IfOk, MatchResult, Ok, Result, sym, ap, ◌∙◌, subst, arith}
 use native.Mathlib.Bridge.{le_prop}
+use Rattle.turns.specs.declared.refusal.ShapeRefusal.{ShapeRefusal}
 use Rattle.turns.specs.declared.shape.Shape.{Shape}
 use Rattle.turns.specs.Shapes.{Few}
 use Rattle.history.specs.declared.entry.Entry.{Entry}
@@ -31,11 +32,17 @@ with_slots s q e =
 with_both : (s : Shape) (q n : ℕ) → s.slots ≡ q → s.threads ≡ n → (f : Few q × Few n) → s ≡ record { slots = q; threads = n; few = f }
 with_both s q n e h = subst (λ (x : ℕ). (f : Few q × Few x) → s ≡ record { slots = q; threads = x; few = f }) h (with_slots s q e)
 
-pub shape_is : (c : Contents) (s : Shape) → s.slots ≡ c.header.slots → s.threads ≡ c.header.threads → s ≡ shape_of c
+shape_is : (c : Contents) (s : Shape) → s.slots ≡ c.header.slots → s.threads ≡ c.header.threads → s ≡ shape_of c
 shape_is c s e h =
     let fq : Few c.header.slots = subst Few e s.few.0 in
     let fn : Few c.header.threads = subst Few h s.few.1 in
     with_both s (bounded c.header.slots) (bounded c.header.threads) (e ∙ sym (bounded_is c.header.slots fq)) (h ∙ sym (bounded_is c.header.threads fn)) (shape_of c).few
+
+-- the shape that its header answers
+pub shape_read : (c : Contents) (r : Result Shape ShapeRefusal) (s : Shape) (Q : ShapeRefusal → Type 0) → r ≡ Ok s → MatchResult r (λ t. (t.slots ≡ c.header.slots) × (t.threads ≡ c.header.threads)) Q → s ≡ shape_of c
+shape_read c r s Q e m =
+    let both : (s.slots ≡ c.header.slots) × (s.threads ≡ c.header.threads) = subst (λ (x : Result Shape ShapeRefusal). MatchResult x (λ t. (t.slots ≡ c.header.slots) × (t.threads ≡ c.header.threads)) Q) e m in
+    shape_is c s both.0 both.1
 
 -- a run in buffers that are cut to its shape
 pub told_cut : {T : Type 0} (form : Format T) (printed : T → List ℕ) (room cycle : ℕ) (c : Contents) (s : Shape) (cells cells' : List (Cell T)) (hands hands' : List T) (entries : List (Entry T)) →

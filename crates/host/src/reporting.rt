@@ -1,6 +1,7 @@
 // A run and its report.
 ghost use Rattle.std.specs.Prelude.{length, take, IfOk};
 ghost use Rattle.turns.specs.Rows.{cleared};
+ghost use Rattle.turns.specs.Shapes.{Few};
 ghost use Rattle.runfile.specs.Files.{contents_of};
 ghost use Rattle.world.specs.Calls.{new_table};
 ghost use Rattle.world.specs.Worlds.{world};
@@ -19,6 +20,7 @@ use runfile::kinds::BankKind;
 use runfile::runs::RunFile;
 use turns::bank::{Bank, SLOTS};
 use turns::nibble_bank::NibbleBank;
+use turns::shape::Shape;
 use turns::word_bank::WordBank;
 use world::cell::{Cell, Mark};
 
@@ -30,15 +32,15 @@ const RECORD_LENGTH: usize = 2048;
 fn report_run<B: Bank + Drop, E: Element>(
     bank: B,
     run: &RunFile,
+    shape: Shape,
     cells: &mut [Cell<E>],
     hands: &mut [E],
     entries: &mut [Entry<E>],
     area: &mut [u8],
 ) -> Result<usize, Fault>
-    ensures writes { Writes result area.old area.new (told_run E.Element.printed run.now.header.shape (length area.old) (ran E.Element.format B.Bank.CYCLE (contents_of run.now) run.now.header.shape (world cleared (new_table run.now.header.shape) cells.old hands.old entries.old))) }
-    ensures faithful { IfOk result (λ size. Faithful E.Element.printed B.Bank.CYCLE run.now.header.shape (take size area.new)) }
+    ensures writes { Writes result area.old area.new (told_run E.Element.printed shape (length area.old) (ran E.Element.format B.Bank.CYCLE (contents_of run.now) shape (world cleared (new_table shape) cells.old hands.old entries.old))) }
+    ensures faithful { IfOk result (λ size. Faithful E.Element.printed B.Bank.CYCLE shape (take size area.new)) }
 {
-    let shape = run.header.shape;
     let mut machine = Machine::new(bank);
     play_run(&mut machine, run, shape, cells, hands, entries).map_err(Fault::Machine)?;
     let counts = Counts {
@@ -56,11 +58,13 @@ pub(crate) fn report_file<E: Element>(
     run: &RunFile,
     area: &mut [u8],
 ) -> Result<usize, Fault>
-    requires { BuffersFit E.row }
+    requires few { Few run.now.header.slots × Few run.now.header.threads }
+    requires fit { BuffersFit E.row }
     ensures writes { Writes result area.old area.new (told_as E.Element.format E.Element.printed blank (length area.old) (contents_of run.now)) }
     ensures faithful { IfOk result (λ size. Faithful E.Element.printed (cycle_of run.now.header.bank) (shape_of (contents_of run.now)) (take size area.new)) }
 {
-    let shape = run.header.shape;
+    // The header of a file that was read has a shape.
+    let shape = run.header.shape().unwrap();
     let mut cells = [Cell {
         element: blank,
         mark: Mark::Empty,
@@ -77,7 +81,7 @@ pub(crate) fn report_file<E: Element>(
     let entries = &mut entries;
     // Each arm is at its own type of bank, for which a closure has no parameter.
     match run.header.bank {
-        BankKind::Word => report_run(WordBank::new(), run, cells, hands, entries, area),
-        BankKind::Nibble => report_run(NibbleBank::new(), run, cells, hands, entries, area),
+        BankKind::Word => report_run(WordBank::new(), run, shape, cells, hands, entries, area),
+        BankKind::Nibble => report_run(NibbleBank::new(), run, shape, cells, hands, entries, area),
     }
 }

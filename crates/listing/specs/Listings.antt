@@ -8,7 +8,7 @@ use Rattle.runfile.specs.declared.operation.Operation.TheVariants.{Push, Pop}
 use Rattle.runfile.specs.Elements.{Format, number_format, number_text, letter_format, letter_text}
 use Rattle.runfile.specs.Faults.{FileFault, number_of}
 use Rattle.runfile.specs.Files.{Contents, programs_in, lead_in_in, main_in}
-use Rattle.runfile.specs.Headers.{Head}
+use Rattle.runfile.specs.declared.header.Header.{Header}
 use Rattle.runfile.specs.Kinds.{element_word, bank_word}
 use Rattle.runfile.specs.Programs.{operations_of}
 
@@ -23,7 +23,7 @@ abbrev pub kind_line : List ℕ → List ℕ → List ℕ
 kind_line label word = label ++ (word ++ line_feed)
 
 -- the shape, the kind of elements, and the kind of bank
-abbrev pub head_lines : Head → List ℕ
+abbrev pub head_lines : Header → List ℕ
 head_lines h =
     shape_line h.slots h.threads
     ++ (kind_line (codes "element ") (element_word h.element) ++ kind_line (codes "bank ") (bank_word h.bank))

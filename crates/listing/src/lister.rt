@@ -1,7 +1,6 @@
 // A whole listing.
 ghost use Rattle.std.specs.Prelude.{◌≡◌, ◌++◌, IfOk, OnOk};
 ghost use Rattle.runfile.specs.Files.{contents_of, parsed, programs_in};
-ghost use Rattle.runfile.specs.Headers.{head_of};
 ghost use Rattle.listing.specs.Listings.{contents_text, head_lines, listed, program_lines, programs_text, refusal_line};
 
 use super::lines::{append_program, append_schedule};
@@ -18,10 +17,10 @@ use std::alloc::{AllocError, Global};
 
 // The shape, the kind of elements, and the kind of bank.
 fn append_head(out: &mut Vec<u8>, header: &Header) -> Result<(), AllocError>
-    ensures { OnOk result (out.new.items ≡ out.old.items ++ head_lines (head_of header.now)) }
+    ensures { OnOk result (out.new.items ≡ out.old.items ++ head_lines header.now) }
 {
-    let slots = header.shape.slots();
-    let threads = header.shape.threads();
+    let slots = header.slots;
+    let threads = header.threads;
     let element = header.element;
     let bank = header.bank;
     let lines = format!(in *out.allocator();
@@ -41,7 +40,7 @@ fn append_refusal(out: &mut Vec<u8>, fault: Fault) -> Result<(), AllocError>
 
 // The programs of all threads, in order.
 fn append_programs<E: Element>(out: &mut Vec<u8>, run: &RunFile) -> Result<(), AllocError>
-    ensures { OnOk result (out.new.items ≡ out.old.items ++ program_lines E.Element.format E.Element.printed 0 (programs_in run.now.header.shape.threads (contents_of run.now).bodies)) }
+    ensures { OnOk result (out.new.items ≡ out.old.items ++ program_lines E.Element.format E.Element.printed 0 (programs_in run.now.header.threads (contents_of run.now).bodies)) }
 {
     for (thread, program) in run.programs().iter().enumerate() {
         append_program::<E>(out, thread, program)?;
@@ -51,7 +50,7 @@ fn append_programs<E: Element>(out: &mut Vec<u8>, run: &RunFile) -> Result<(), A
 
 // The same, by the kind of the run's elements.
 fn append_kind_of_programs(out: &mut Vec<u8>, run: &RunFile) -> Result<(), AllocError>
-    ensures { OnOk result (out.new.items ≡ out.old.items ++ programs_text run.now.header.element (programs_in run.now.header.shape.threads (contents_of run.now).bodies)) }
+    ensures { OnOk result (out.new.items ≡ out.old.items ++ programs_text run.now.header.element (programs_in run.now.header.threads (contents_of run.now).bodies)) }
 {
     // Each arm is at its own type of elements, for which a closure has no parameter.
     match run.header.element {

@@ -1,16 +1,15 @@
 -- The bodies as references into the file, against the bodies as lists.
-use Rattle.std.proofs.Common.{◌≡◌, ℕ, zero, suc, ◌+◌, ◌<◌, ◌≤◌, List, [], ◌∷◌, map, length, get_or, take, drop, Some, Ok, Err, Result, sym, refl, ap, ◌∙◌, inl, inr, arith, length-append, length-drop, length-take, Bor}
+use Rattle.std.proofs.Common.{◌≡◌, ℕ, zero, suc, ◌+◌, ◌<◌, ◌≤◌, List, [], ◌∷◌, map, min, length, get_or, take, drop, Ok, Err, Result, sym, refl, ap, ◌∙◌, arith, length-append, length-drop, length-take, Bor}
 use Rattle.std.specs.List.{flat_map}
-use Rattle.std.proofs.lemmas.List.{get_or-take, get_or-drop, get_or-map, take-map, drop-map, drop-take, take-take, length-map}
-use Rattle.std.proofs.lemmas.Option.{slice_get-get_or, slice_get_past}
-use Rattle.std.proofs.lemmas.Bool.{cases_lt, le-ltb, lt-ltb}
-use Rattle.std.specs.List.{slice_get}
+use Rattle.std.proofs.lemmas.List.{get_or-take, get_or-drop, get_or-map, take-map, take_min, drop-map, drop-take, take-take, length-map}
+use Rattle.runfile.specs.declared.bodies.Bodies.{Bodies}
+use Rattle.runfile.specs.declared.header.Header.{Header}
 use Rattle.runfile.specs.declared.runs.RunFile.{RunFile}
 use Rattle.runfile.specs.Faults.{FileFault}
 use Rattle.runfile.specs.Chains.{chain}
 use Rattle.runfile.specs.Tables.{cut_of}
-use Rattle.runfile.specs.Headers.{Head, head_of, headed}
-use Rattle.runfile.specs.Files.{Contents, bodies_read, contents_of, program_of, run_checked, programs_in, lead_in_in, main_in}
+use Rattle.runfile.specs.Headers.{headed}
+use Rattle.runfile.specs.Files.{bodies_read, contents_of, run_checked, programs_in, lead_in_in, main_in}
 
 -- what the checker reads past an array's end
 abbrev pub nothing : Bor (List ℕ)
@@ -53,33 +52,29 @@ pub joined_first : (bs : List (List ℕ)) → 0 < length bs → length (flat_map
 joined_first [] h = absurd (omega arith)
 joined_first (b ∷ bs) h = length-append b (flat_map (λ b. b) bs)
 
--- a run has a program for each thread, and three other bodies
-pub bodies_count : (f : RunFile) → length (contents_of f).bodies ≡ f.header.shape.threads + 3
-bodies_count f =
-    let few = f.header.shape.few.1 in
+-- a run of at most 64 threads has a program for each, and three other bodies
+pub bodies_count : (f : RunFile) → f.header.threads ≤ 64 → length (contents_of f).bodies ≡ f.header.threads + 3
+bodies_count f few =
     let long = f.bodies.long in
     simp (length-take, length-map) (omega arith)
 
-pub run_programs : (f : RunFile) (m : ℕ) → m ≡ f.header.shape.threads → map (λ x. x.now) (take m (drop 1 f.bodies.cuts)) ≡ programs_in f.header.shape.threads (contents_of f).bodies
-run_programs f m e = cut_programs f.bodies.cuts (f.header.shape.threads + 3) f.header.shape.threads m refl e
+-- of the bodies behind the first, as many as there are threads, or all
+pub run_programs : (f : RunFile) (m : ℕ) → m ≡ min f.header.threads (length (drop 1 f.bodies.cuts)) → map (λ x. x.now) (take m (drop 1 f.bodies.cuts)) ≡ programs_in f.header.threads (contents_of f).bodies
+run_programs f m e =
+    ap (λ k. map (λ x. x.now) (take k (drop 1 f.bodies.cuts))) e
+    ∙ ap (map (λ x. x.now)) (take_min f.header.threads (drop 1 f.bodies.cuts))
+    ∙ cut_programs f.bodies.cuts (f.header.threads + 3) f.header.threads f.header.threads refl refl
 
-pub program_get : (c : Contents) (thread : ℕ) → length c.bodies ≡ c.header.threads + 3 → slice_get (programs_in c.header.threads c.bodies) thread ≡ program_of c thread
-program_get c thread h = elim (cases_lt thread c.header.threads) [
-  | inl below ↦ (
-      let l : thread < length (programs_in c.header.threads c.bodies) = simp (length-take, length-drop) (omega arith) in
-      slice_get-get_or (programs_in c.header.threads c.bodies) thread [] l
-      ∙ rw (lt-ltb thread c.header.threads below) (ap Some (get_or-take c.header.threads (drop 1 c.bodies) thread [] below ∙ get_or-drop 1 c.bodies thread [])))
-  | inr past ↦ (
-      let l : length (programs_in c.header.threads c.bodies) ≤ thread = simp (length-take, length-drop) (omega arith) in
-      slice_get_past (programs_in c.header.threads c.bodies) thread l ∙ rw (le-ltb thread c.header.threads past) refl)
-]
+-- a body of the file, read off the cuts
+pub cut_body : (b : Bodies) (threads k : ℕ) (part : List ℕ) → k < threads + 3 → part ≡ get_or (map (λ x. x.now) b.cuts) k [] → part ≡ get_or (cut_of (threads + 3) b) k []
+cut_body b threads k part h e = e ∙ sym (get_or-take (threads + 3) (map (λ x. x.now) b.cuts) k [] h)
 
 -- what follows the shape: programs and two schedules
-pub run_parts : (f : RunFile) → length (flat_map (λ b. b) (drop 1 (contents_of f).bodies)) ≡ length (flat_map (λ b. b) (programs_in f.header.shape.threads (contents_of f).bodies)) + length (lead_in_in f.header.shape.threads (contents_of f).bodies) + length (main_in f.header.shape.threads (contents_of f).bodies)
-run_parts f =
-    let n = f.header.shape.threads in
+pub run_parts : (f : RunFile) → f.header.threads ≤ 64 → length (flat_map (λ b. b) (drop 1 (contents_of f).bodies)) ≡ length (flat_map (λ b. b) (programs_in f.header.threads (contents_of f).bodies)) + length (lead_in_in f.header.threads (contents_of f).bodies) + length (main_in f.header.threads (contents_of f).bodies)
+run_parts f few =
+    let n = f.header.threads in
     let bs = (contents_of f).bodies in
-    let l : length (drop 1 bs) ≡ n + 2 = simp length-drop (omega (arith, bodies_count f)) in
+    let l : length (drop 1 bs) ≡ n + 2 = simp length-drop (omega (arith, bodies_count f few)) in
     let k : 1 + (1 + n) ≡ 2 + n = omega arith in
     joined_two n (drop 1 bs) l ∙ simp (get_or-drop 1 bs n [], get_or-drop 1 bs (1 + n) [], k)
 
@@ -87,13 +82,12 @@ module _ (count start : ℕ) (bs : List (List ℕ)) (shape : List ℕ) (first : 
   pub shape_fault : (f : FileFault) → Err f ≡ headed count shape start → bodies_read count bs start ≡ Err f
   shape_fault f e = rw (← first, ← e)
 
-  pub after_shape : (h : Head) (r : Result (Unit {0}) FileFault) → Ok h ≡ headed count shape start → r ≡ run_checked h (programs_in h.threads bs) (lead_in_in h.threads bs) (main_in h.threads bs) (start + length shape) → bodies_read count bs start ≡ chain r (λ _. Ok (record { header = h; bodies = bs }))
+  pub after_shape : (h : Header) (r : Result (Unit {0}) FileFault) → Ok h ≡ headed count shape start → r ≡ run_checked h (programs_in h.threads bs) (lead_in_in h.threads bs) (main_in h.threads bs) (start + length shape) → bodies_read count bs start ≡ chain r (λ _. Ok (record { header = h; bodies = bs }))
   after_shape h (Ok u) e d = rw (← first, ← e, ← d)
   after_shape h (Err f) e d = rw (← first, ← e, ← d)
 
-pub run_read : (f : RunFile) (count start place : ℕ) (shape : List ℕ) (r : Result (Unit {0}) FileFault) → f.header.shape.threads + 3 ≡ count → shape ≡ (get_or f.bodies.cuts 0 nothing).now → Ok (head_of f.header) ≡ headed count shape start → place ≡ start + length shape → r ≡ run_checked (head_of f.header) (programs_in f.header.shape.threads (contents_of f).bodies) (lead_in_in f.header.shape.threads (contents_of f).bodies) (main_in f.header.shape.threads (contents_of f).bodies) place → bodies_read count (cut_of count f.bodies) start ≡ chain r (λ _. Ok (contents_of f))
-run_read f count start place shape r same is e q d =
-    let few = f.header.shape.few.1 in
+pub run_read : (f : RunFile) (count start place : ℕ) (shape : List ℕ) (r : Result (Unit {0}) FileFault) → f.header.threads + 3 ≡ count → f.header.threads ≤ 64 → shape ≡ (get_or f.bodies.cuts 0 nothing).now → Ok f.header ≡ headed count shape start → place ≡ start + length shape → r ≡ run_checked f.header (programs_in f.header.threads (contents_of f).bodies) (lead_in_in f.header.threads (contents_of f).bodies) (main_in f.header.threads (contents_of f).bodies) place → bodies_read count (cut_of count f.bodies) start ≡ chain r (λ _. Ok (contents_of f))
+run_read f count start place shape r same few is e q d =
     let long = f.bodies.long in
-    let s = is ∙ cut_at f.bodies.cuts (f.header.shape.threads + 3) 0 (omega arith) (omega arith) in
-    rw (← same) (after_shape (f.header.shape.threads + 3) start (cut_of (f.header.shape.threads + 3) f.bodies) shape s (head_of f.header) r (rw (← same) at e) (rw q at d))
+    let s = is ∙ cut_at f.bodies.cuts (f.header.threads + 3) 0 (omega arith) (omega arith) in
+    rw (← same) (after_shape (f.header.threads + 3) start (cut_of (f.header.threads + 3) f.bodies) shape s f.header r (rw (← same) at e) (rw q at d))

@@ -13,7 +13,8 @@ use Rattle.runfile.specs.Elements.{Format, number_format, letter_format}
 use Rattle.turns.specs.Shapes.{Few}
 use Rattle.runfile.specs.Faults.{FileFault, cut, contents, body, tail}
 use Rattle.runfile.specs.Files.{counted, table, divided, programs_checked}
-use Rattle.runfile.specs.Headers.{Head, headed, slots_right}
+use Rattle.runfile.specs.declared.header.Header.{Header}
+use Rattle.runfile.specs.Headers.{headed, slots_right}
 use Rattle.runfile.specs.Kinds.{element_kind, bank_kind}
 use Rattle.runfile.specs.Programs.{operations, programmed}
 use Rattle.runfile.specs.Tables.{entries, tabled, bodied}
@@ -66,7 +67,7 @@ ok_or_ok : {A : Type 0} (o : Option A) (f : FileFault) (a : A) → ok_or o f ≡
 ok_or_ok (Some x) f a e = ap Some (ok_same x a e)
 ok_or_ok None f a e = absurd (never a f (sym e))
 
-pub record Headed (count : ℕ) (b : List ℕ) (h : Head) : Type 0 where
+pub record Headed (count : ℕ) (b : List ℕ) (h : Header) : Type 0 where
   pub element : ℕ
   pub bank : ℕ
   pub bytes : b ≡ h.slots ∷ h.threads ∷ element ∷ bank ∷ []
@@ -98,7 +99,7 @@ headed_slots count place (s ∷ t ∷ k ∷ []) l e = absurd (omega arith)
 headed_slots count place (s ∷ t ∷ k ∷ m ∷ []) l e = rw e
 headed_slots count place (s ∷ t ∷ k ∷ m ∷ x ∷ more) l e = absurd (omega arith)
 
-pub headed_ok : (count : ℕ) (b : List ℕ) (place : ℕ) (h : Head) → headed count b place ≡ Ok h → Headed count b h
+pub headed_ok : (count : ℕ) (b : List ℕ) (place : ℕ) (h : Header) → headed count b place ≡ Ok h → Headed count b h
 headed_ok count [] place h e = absurd (never h (body place) (sym e))
 headed_ok count (s ∷ []) place h e = absurd (never h (body place) (sym e))
 headed_ok count (s ∷ t ∷ []) place h e = absurd (never h (body place) (sym e))

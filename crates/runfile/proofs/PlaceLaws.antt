@@ -9,7 +9,8 @@ use Rattle.runfile.specs.declared.kinds.ElementKind.{ElementKind}
 use Rattle.runfile.specs.declared.kinds.ElementKind.TheVariants.{Number, Letter}
 use Rattle.runfile.specs.Elements.{Format, element, number_format, letter_format}
 use Rattle.runfile.specs.Files.{counted, table, divided, programs_checked, run_checked, bodies_checked, programs_in, lead_in_in, main_in, parsed}
-use Rattle.runfile.specs.Headers.{Head, headed, slots_right}
+use Rattle.runfile.specs.declared.header.Header.{Header}
+use Rattle.runfile.specs.Headers.{headed, slots_right}
 use Rattle.runfile.specs.Kinds.{element_kind, bank_kind}
 use Rattle.runfile.proofs.CutLaws.{joined_parts}
 use Rattle.runfile.proofs.FileLaws.{divided_joined}
@@ -89,7 +90,7 @@ programs_until : (kind : ElementKind) (ps : List (List ℕ)) (place n : ℕ) →
 programs_until Number ps place n h = programmed_until number_format ps place n h
 programs_until Letter ps place n h = programmed_until letter_format ps place n h
 
-run_until : (h : Head) (programs : List (List ℕ)) (lead_in main : List ℕ) (place n : ℕ) → place + length (flat_map (λ p. p) programs) + length lead_in + length main ≤ n → Until n (run_checked h programs lead_in main place)
+run_until : (h : Header) (programs : List (List ℕ)) (lead_in main : List ℕ) (place n : ℕ) → place + length (flat_map (λ p. p) programs) + length lead_in + length main ≤ n → Until n (run_checked h programs lead_in main place)
 run_until h programs lead_in main place n room =
     until_chain n (programs_checked h.element programs place) _ (programs_until h.element programs place n (omega arith))
     (λ end e. let d = programs_end h.element programs place end e in

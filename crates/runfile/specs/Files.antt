@@ -1,5 +1,6 @@
 -- The run file: a table of contents, then the bodies in table order. The checks stand in their order, and the first that fails wins.
 use Rattle.std.specs.Prelude.{ℕ, ◌+◌, ◌*◌, cond, List, [], length, take, drop, Some, None, Ok, Err, Option, Result, ◌==◌, nat_lt, slice_index, slice_index_or}
+use Rattle.runfile.specs.declared.header.Header.{Header}
 use Rattle.runfile.specs.declared.kinds.ElementKind.{ElementKind}
 use Rattle.runfile.specs.declared.kinds.ElementKind.TheVariants.{Number, Letter}
 use Rattle.runfile.specs.declared.runs.RunFile.{RunFile}
@@ -7,7 +8,7 @@ use Rattle.runfile.specs.declared.tabled.TabledFile.{TabledFile}
 use Rattle.runfile.specs.Chains.{chain}
 use Rattle.runfile.specs.Elements.{number_format, letter_format}
 use Rattle.runfile.specs.Faults.{FileFault, cut, contents, tail}
-use Rattle.runfile.specs.Headers.{Head, head_of, headed}
+use Rattle.runfile.specs.Headers.{headed}
 use Rattle.runfile.specs.Programs.{programmed}
 use Rattle.runfile.specs.Schedules.{scheduled}
 use Rattle.runfile.specs.Tables.{entries, tabled, bodied, cut_of}
@@ -40,7 +41,7 @@ programs_checked Number ps place = programmed number_format ps place
 programs_checked Letter ps place = programmed letter_format ps place
 
 -- first every operation, then every schedule byte; the programs begin at `place`
-abbrev pub run_checked : Head → List (List ℕ) → List ℕ → List ℕ → ℕ → Result (Unit {0}) FileFault
+abbrev pub run_checked : Header → List (List ℕ) → List ℕ → List ℕ → ℕ → Result (Unit {0}) FileFault
 run_checked h programs lead_in main place =
     chain (programs_checked h.element programs place) (λ end.
     chain (scheduled h.threads lead_in end) (λ _.
@@ -57,7 +58,7 @@ abbrev pub main_in : ℕ → List (List ℕ) → List ℕ
 main_in threads bs = slice_index_or bs (2 + threads) []
 
 -- the shape body, and then all the others; the bodies begin at `start`
-abbrev pub bodies_checked : ℕ → List (List ℕ) → ℕ → Result Head FileFault
+abbrev pub bodies_checked : ℕ → List (List ℕ) → ℕ → Result Header FileFault
 bodies_checked count bs start =
     chain (headed count (slice_index_or bs 0 []) start) (λ h.
     chain (run_checked h (programs_in h.threads bs) (lead_in_in h.threads bs) (main_in h.threads bs) (start + length (slice_index_or bs 0 []))) (λ _.
@@ -65,7 +66,7 @@ bodies_checked count bs start =
 
 -- what a run file holds
 pub record Contents : Type 0 where
-  pub header : Head
+  pub header : Header
   pub bodies : List (List ℕ)
 
 -- a thread's program, where there is such a thread
@@ -85,7 +86,7 @@ parsed file =
 
 -- what a file that was read holds
 abbrev pub contents_of : RunFile → Contents
-contents_of f = record { header = head_of f.header; bodies = cut_of (f.header.shape.threads + 3) f.bodies }
+contents_of f = record { header = f.header; bodies = cut_of (f.header.threads + 3) f.bodies }
 
 abbrev pub outcome : Result RunFile FileFault → Result Contents FileFault
 outcome r = chain r (λ f. Ok (contents_of f))

@@ -2,28 +2,16 @@
 use Rattle.std.specs.Prelude.{ℕ, ◌+◌, ◌-◌, Bool, false, cond, List, [], ◌∷◌, Ok, Err, Result, ◌==◌, nat_le}
 use Rattle.std.specs.Option.{ok_or}
 use Rattle.runfile.specs.declared.header.Header.{Header}
-use Rattle.runfile.specs.declared.kinds.BankKind.{BankKind}
-use Rattle.runfile.specs.declared.kinds.ElementKind.{ElementKind}
 use Rattle.runfile.specs.Chains.{chain}
 use Rattle.runfile.specs.Faults.{FileFault, body}
 use Rattle.runfile.specs.Kinds.{element_kind, bank_kind}
-
--- what the shape body says
-pub record Head : Type 0 where
-  pub slots : ℕ
-  pub threads : ℕ
-  pub element : ElementKind
-  pub bank : BankKind
-
-abbrev pub head_of : Header → Head
-head_of h = record { slots = h.shape.slots; threads = h.shape.threads; element = h.element; bank = h.bank }
 
 -- there are 1 to 64 slots
 abbrev pub slots_right : ℕ → Bool
 slots_right slots = cond (nat_le 1 slots) (nat_le slots 64) false
 
 -- the table has an entry for each thread, and three more
-abbrev pub headed : ℕ → List ℕ → ℕ → Result Head FileFault
+abbrev pub headed : ℕ → List ℕ → ℕ → Result Header FileFault
 headed count [] place = Err (body place)
 headed count (s ∷ []) place = Err (body place)
 headed count (s ∷ t ∷ []) place = Err (body place)
@@ -37,6 +25,3 @@ headed count (s ∷ t ∷ e ∷ b ∷ []) place =
     (Err (body (place + 1))))
     (Err (body place))
 headed count (s ∷ t ∷ e ∷ b ∷ x ∷ more) place = Err (body place)
-
-abbrev pub head_read : Result Header FileFault → Result Head FileFault
-head_read r = chain r (λ h. Ok (head_of h))

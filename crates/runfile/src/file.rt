@@ -66,10 +66,11 @@ fn check_kind(element: ElementKind, programs: &[&[u8]], place: usize) -> Result<
 // Refuses a run at its first wrong operation, then at its first wrong schedule byte; the programs begin at `place`.
 // The bound stays a `requires`, as above.
 fn check_run(run: &RunFile, place: usize) -> Result<(), Fault>
-    requires { place + length (flat_map (λ b. b) (drop 1 (contents_of run.now).bodies)) ≤ 49152 }
+    requires few { run.now.header.threads ≤ 64 }
+    requires within { place + length (flat_map (λ b. b) (drop 1 (contents_of run.now).bodies)) ≤ 49152 }
     ensures { let c = contents_of run.now in result ≡ run_checked c.header (programs_in c.header.threads c.bodies) (lead_in_in c.header.threads c.bodies) (main_in c.header.threads c.bodies) place }
 {
-    let threads = run.header.shape.threads();
+    let threads = run.header.threads;
     let lead_in = run.lead_in();
     let end = check_kind(run.header.element, run.programs(), place)?;
     check_schedule(lead_in, threads, end)?;

@@ -13,11 +13,12 @@ pub struct RunFile<'a> {
 }
 
 impl<'a> RunFile<'a> {
-    // The programs of the threads, in their order.
+    // The programs of the threads, in their order: all that there are, where a header with more threads was written
+    // over the file's.
     pub fn programs(&self) -> &[&'a [u8]]
         ensures { map (λ p. p.now) result.now ≡ programs_in (contents_of self.now).header.threads (contents_of self.now).bodies }
     {
-        let threads = self.header.shape.threads() as usize;
+        let threads = (self.header.threads as usize).min(self.bodies.cuts.len() - 1);
         &self.bodies.cuts[1..1 + threads]
     }
 
@@ -25,7 +26,11 @@ impl<'a> RunFile<'a> {
     pub fn program(&self, thread: usize) -> Option<&'a [u8]>
         ensures { option_map (λ p. p.now) result ≡ program_of (contents_of self.now) thread }
     {
-        self.programs().get(thread).copied()
+        if thread < self.header.threads as usize {
+            Some(self.body(1 + thread))
+        } else {
+            None
+        }
     }
 
     pub fn lead_in(&self) -> &'a [u8]
@@ -45,7 +50,13 @@ impl<'a> RunFile<'a> {
         requires { index < 2 }
         ensures { result.now ≡ slice_index_or (contents_of self.now).bodies (1 + (contents_of self.now).header.threads + index) [] }
     {
-        let threads = self.header.shape.threads() as usize;
-        self.bodies.cuts[1 + threads + index]
+        self.body(1 + self.header.threads as usize + index)
+    }
+
+    // The body at this place of the table; an empty one where there is none.
+    fn body(&self, index: usize) -> &'a [u8]
+        ensures { result.now ≡ slice_index_or (map (λ x. x.now) self.now.bodies.cuts) index [] }
+    {
+        self.bodies.cuts.get(index).copied().unwrap_or_default()
     }
 }

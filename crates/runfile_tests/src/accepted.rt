@@ -8,8 +8,8 @@ use std::test::Fail;
 #[test]
 fn parts_of_a_file(rt: HostRuntime) -> Result<(), Fail> {
     let run = read_run(&NUMBERS)?;
-    assert_eq!(rt; run.header.shape.slots(), 2);
-    assert_eq!(rt; run.header.shape.threads(), 2);
+    assert_eq!(rt; run.header.slots, 2);
+    assert_eq!(rt; run.header.threads, 2);
     assert_eq!(rt; run.header.element, ElementKind::Number);
     assert_eq!(rt; run.header.bank, BankKind::Word);
     assert_eq!(rt;
@@ -35,8 +35,20 @@ fn longest_file(rt: HostRuntime) -> Result<(), Fail> {
     ];
     file[0..25].copy_from_slice(&head);
     let run = read_run(&file)?;
-    assert_eq!(rt; run.header.shape.slots(), 64);
+    assert_eq!(rt; run.header.slots, 64);
     assert_eq!(rt; run.main().len(), 49127);
+    Ok(())
+}
+
+// A run answers for whatever header it has: past the bodies that there are, a program or a schedule is empty.
+#[test]
+fn header_written_over(rt: HostRuntime) -> Result<(), Fail> {
+    let mut run = read_run(&NUMBERS)?;
+    run.header.threads = 70;
+    assert!(rt; run.header.shape().is_err());
+    assert_eq!(rt; run.program(66).ok_or("no program 66")?, b"".as_slice());
+    assert!(rt; run.program(70).is_none());
+    assert_eq!(rt; run.lead_in(), b"".as_slice());
     Ok(())
 }
 

@@ -4,14 +4,14 @@ use Rattle.runfile.specs.Files.{contents_of}
 use Rattle.world.specs.declared.cell.Mark.TheVariants.{Empty}
 use Rattle.world.specs.Steps.{cell}
 use Rattle.host.specs.Tells.{cycle_of, shape_of}
-use Rattle.host.proofs.Shaping.{at_file, shape_is}
+use Rattle.host.proofs.Shaping.{at_file, shape_read}
 use Rattle.host.proofs.reporting.report_file.Goals as goal
 
 pub returns-in-Word : goal.returns-in-Word
 returns-in-Word g c =
     let run = contents_of c.args.run.now in
-    let s = c.args.run.now.header.shape in
-    let e : s ≡ shape_of run = shape_is run s refl refl in
+    let s = c.unwrap-shape.result in
+    let e : s ≡ shape_of run = shape_read run c.shape.result s _ c.unwrap-shape.ensures c.shape.ensures in
     let k : word_cycle ≡ cycle_of run.header.bank = ap cycle_of (sym c.in-Word.is) in
     let q : c.slots.result ≡ s.slots = c.slots.ensures in
     let n : c.threads.result ≡ s.threads = c.threads.ensures in
@@ -23,8 +23,8 @@ returns-in-Word g c =
 pub returns-in-Nibble : goal.returns-in-Nibble
 returns-in-Nibble g c =
     let run = contents_of c.args.run.now in
-    let s = c.args.run.now.header.shape in
-    let e : s ≡ shape_of run = shape_is run s refl refl in
+    let s = c.unwrap-shape.result in
+    let e : s ≡ shape_of run = shape_read run c.shape.result s _ c.unwrap-shape.ensures c.shape.ensures in
     let k : nibble_cycle ≡ cycle_of run.header.bank = ap cycle_of (sym c.in-Nibble.is) in
     let q : c.slots.result ≡ s.slots = c.slots.ensures in
     let n : c.threads.result ≡ s.threads = c.threads.ensures in
