@@ -8,6 +8,7 @@ use runfile::element::Element;
 use runfile::operation::Operation;
 use runfile::program::Operations;
 use std::alloc::AllocError;
+use text::holder::Text;
 
 fn append_operation<E: Element>(
     out: &mut Vec<u8>,
@@ -34,8 +35,12 @@ pub(crate) fn append_schedule(
 {
     out.extend_from_slice(word)?;
     for thread in schedule {
-        let item = format!(in *out.allocator(); " {thread}")?;
-        out.extend_from_slice(item.as_bytes())?;
+        out.push(b' ')?;
+        // A `String` of its own for each byte of a schedule would take most of a long listing's time.
+        let mut number = Text::new();
+        // At most three digits, so the text has room.
+        let _ = number.push(*thread as u64);
+        out.extend_from_slice(number.as_bytes())?;
     }
     out.extend_from_slice(b"\n")
 }

@@ -1,6 +1,6 @@
 pub mod ChainLaws
 pub mod CutLaws
-mod ElementLaws
+pub mod ElementLaws
 mod FileLaws
 pub mod FormLaws
 mod OutcomeLaws
