@@ -1,7 +1,8 @@
 -- A take that is not refused, as a step of its thread.
-use Rattle.std.proofs.Common.{◌≡◌, ℕ, ◌-◌, ◌<◌, ◌≤◌, length, Ok, ap, arith}
+use Rattle.std.proofs.Common.{◌≡◌, ℕ, ◌-◌, ◌<◌, ◌≤◌, List, length, Ok, ap, arith}
 use Rattle.std.proofs.lemmas.List.{set-get_or}
 use Rattle.std.proofs.lemmas.Bool.{lt-leb, le-leb, eq-eqb, ne_eqb, le-ltb}
+use Rattle.history.specs.declared.entry.Entry.{Entry}
 use Rattle.history.specs.declared.entry.Kind.{Kind}
 use Rattle.world.specs.declared.phase.Phase.TheVariants.{Idle, Taking}
 use Rattle.world.specs.declared.step.Step.TheVariants.{Took}
@@ -29,3 +30,11 @@ module _ {T : Type 0} (cycle : ℕ) (w : World T) (i : ℕ) (kind : Kind) (a : A
   took =
       let spent : count_of kind w.table ≡ ticket_limit → ⊥ = λ e. omega (arith, a.unspent) in
       rw (lt-leb w.table.shape.threads i a.within, eq-eqb (length w.cells) w.table.shape.slots a.cells, eq-eqb (length w.hands) w.table.shape.threads a.hands, le-leb w.table.used (length w.entries) a.used, a.phase, ne_eqb (count_of kind w.table) ticket_limit spent, le-ltb (length w.entries - w.table.used) (writes_of kind w.table) a.room)
+
+  -- the step that lends the thread's row, gives it back and takes
+  pub took_lent : (ticket : ℕ) (table : Table) (entries : List (Entry T)) →
+      ticket ≡ count_of kind (rephased w.table i (phase_at w.table i)) →
+      table ≡ table_after kind (rephased w.table i (phase_at w.table i)) i →
+      entries ≡ record_after kind (rephased w.table i (phase_at w.table i)) i w.hands w.entries →
+      (Ok (Took, ticket), world w.row table w.cells w.hands entries) ≡ stepped cycle w i
+  took_lent ticket table entries e f h = let b = lent_back w.table i in let s = took in cc

@@ -1,8 +1,8 @@
 // Whole reports, in areas of every length from 0 to some bytes more than the text has.
 use super::samples::{counts, holds, number, plain, pop, push, urgent, whole_lines};
-use faults::numbered::Numbered;
 use history::entry::Entry;
 use report::counts::Counts;
+use report::fault::Fault;
 use report::whole::write_report;
 use runfile::element::Element;
 use std::process::Abort;
@@ -25,7 +25,14 @@ fn every_length<E: Element>(
         let answer = write_report(area, &shape, entries, used, counts);
         let place = whole_lines(text, length);
         if length < text.len() {
-            assert_eq!(rt; answer, Err(AreaRefusal::ShortArea.at(place)));
+            // Written out: `at` makes the answer that is tested.
+            assert_eq!(rt;
+                answer,
+                Err(Fault {
+                    refusal: AreaRefusal::ShortArea,
+                    place,
+                })
+            );
         } else {
             assert_eq!(rt; answer, Ok(text.len()));
         }

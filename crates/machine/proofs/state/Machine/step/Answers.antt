@@ -4,7 +4,7 @@ use Rattle.world.specs.declared.phase.Phase.TheVariants.{Taking}
 use Rattle.world.specs.Worlds.{world}
 use Rattle.machine.specs.Admissions.{Ready}
 use Rattle.machine.proofs.Lists.{at_read}
-use Rattle.machine.proofs.Taking.{Admitted, lent_back, took}
+use Rattle.machine.proofs.Taking.{Admitted, took_lent}
 use Rattle.machine.proofs.state.Machine.step.Goals as goal
 
 pub returns-in-Taking-default : goal.returns-in-Taking-default
@@ -17,8 +17,7 @@ returns-in-Taking-default g c =
     let ready : Ready m.table free (Taking kind) = subst (Ready m.table free) c.in-Taking-default.is-0 c.in_ok-came.ensures.ready in
     let a : Admitted w i kind = search rules in
     let same : c.in_ok-i.i ≡ i = search rules in
-    let lent = lent_back m.table i in
-    let s = took g.B.Bank.CYCLE w i kind a in
+    let took = took_lent g.B.Bank.CYCLE w i kind a c.take-ticket.result c.take-ticket.new.table c.take-ticket.new.entries (cc) (cc) (cc) in
     record { answer = cc }
 
 pub returns-in-Waiting-false : goal.returns-in-Waiting-false
