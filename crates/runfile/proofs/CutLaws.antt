@@ -69,6 +69,10 @@ run_programs f m e =
 pub cut_body : (b : Bodies) (threads k : ℕ) (part : List ℕ) → k < threads + 3 → part ≡ get_or (map (λ x. x.now) b.cuts) k [] → part ≡ get_or (cut_of (threads + 3) b) k []
 cut_body b threads k part h e = e ∙ sym (get_or-take (threads + 3) (map (λ x. x.now) b.cuts) k [] h)
 
+-- the same by whatever sum the code reads it
+pub cut_body_at : (b : Bodies) (threads k m : ℕ) (part : List ℕ) → k ≡ m → k < threads + 3 → part ≡ get_or (map (λ x. x.now) b.cuts) k [] → part ≡ get_or (cut_of (threads + 3) b) m []
+cut_body_at b threads k m part s h e = cut_body b threads k part h e ∙ ap (λ j. get_or (cut_of (threads + 3) b) j []) s
+
 -- what follows the shape: programs and two schedules
 pub run_parts : (f : RunFile) → f.header.threads ≤ 64 → length (flat_map (λ b. b) (drop 1 (contents_of f).bodies)) ≡ length (flat_map (λ b. b) (programs_in f.header.threads (contents_of f).bodies)) + length (lead_in_in f.header.threads (contents_of f).bodies) + length (main_in f.header.threads (contents_of f).bodies)
 run_parts f few =

@@ -13,8 +13,8 @@ pub struct RunFile<'a> {
 }
 
 impl<'a> RunFile<'a> {
-    // The programs of the threads, in their order: all that there are, where a header with more threads was written
-    // over the file's.
+    // The programs of the threads, in their order; where a header with more threads was written over the file's, at
+    // most the 66 bodies behind the shape's.
     pub fn programs(&self) -> &[&'a [u8]]
         ensures { map (λ p. p.now) result.now ≡ programs_in (contents_of self.now).header.threads (contents_of self.now).bodies }
     {
